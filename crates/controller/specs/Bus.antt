@@ -1,0 +1,165 @@
+-- Document 01, 'Bus steps': what each does where it is neither refused nor ignored nor wakes the module.
+use Prim.Native.Nat.{ℕ, _+_, max}
+use mathlib.Core.Bool.{Bool, true, false, _&&_, _||_, not}
+use mathlib.Core.List.{List, [], _∷_}
+use lib.Dec.{eqb, ltb, leb}
+use lib.Bits.{bitOr}
+use Rattle.masks.specs.Pick.{pick}
+use Rattle.masks.specs.Bits.{putBit, maskOf, lowest, highest}
+use Rattle.filter.specs.Match.{matches}
+use Rattle.contents.specs.Bytes.{Head}
+use Rattle.controller.specs.declared.SyncKind.{SyncKind}
+use Rattle.controller.specs.declared.SyncKind.the-variants.{Normal, Alarm}
+use Rattle.controller.specs.declared.Fault.{Fault}
+use Rattle.controller.specs.declared.Fault.the-variants.{Early, Lost, Illegal, Mismatch}
+use Rattle.controller.specs.declared.Answer.the-variants.{Ok, Stored, Queued, HeldOff, HeldBack, Pulse, Overrun, Unmatched, BadFrame, Ignored, Woke, NotSent}
+use Rattle.controller.specs.declared.Events.{Events}
+use Rattle.controller.specs.declared.Fifo.{Fifo}
+use Rattle.controller.specs.declared.Control.{Control}
+use Rattle.controller.specs.Record.{withMode, withEvents, withFifo, withBuffers, withAlarm, withSynced, withLast, withRisr, withGisr, withIflg, withArmed}
+use Rattle.controller.specs.Registers.{SYNAIF, SYNNIF, SLMMIF, XSYNIF, OVRNIF, ERRIF, SYNEIF, SYNLIF, ILLPIF, WAKEIF}
+use Rattle.controller.specs.Kinds.{isReceive, isArmed, isLocked}
+use Rattle.controller.specs.Flags.{cleared}
+use Rattle.controller.specs.Modes.{disarmAll, wake}
+use Rattle.controller.specs.Writes.{isFullTransmit, placeAfter}
+use Rattle.controller.specs.Plan.{headAt, Move, store, Reply, say, send, Plan, plain}
+
+-- ---- waking: "any sync, frame or fault event wakes the module with WAKEIF and has no other effect"
+
+abbrev pub raiseGisr : Control → ℕ → Control
+raiseGisr c b = withEvents c (withGisr (c .events) (bitOr (c .events .gisr) b))
+
+abbrev pub raiseRisr : Control → ℕ → Control
+raiseRisr c b = withEvents c (withRisr (c .events) (bitOr (c .events .risr) b))
+
+unfoldable pub woken : Control → Control
+woken c = wake (raiseGisr c WAKEIF)
+
+-- ---- sync
+
+-- "exactly the full, unlocked transmit buffers with identifier not 0 are armed"
+unfoldable pub arms : Control → List Head → ℕ → Bool
+arms c hs n = isFullTransmit c n && not (isLocked c n) && not (eqb (headAt hs n .ident) 0)
+
+abbrev pub syncFlag : SyncKind → ℕ
+syncFlag Normal = SYNNIF
+syncFlag Alarm = SYNAIF
+
+-- "sets SYNNIF or SYNAIF, and XSYNIF"; a remembered SYNLIF clear acts now
+unfoldable pub syncEvents : SyncKind → Events → Events
+syncEvents k f =
+    record {
+      risr = bitOr (bitOr (f .risr) (syncFlag k)) XSYNIF;
+      gisr = pick (f .clearing) (cleared (f .gisr) SYNLIF) (f .gisr);
+      clearing = false;
+    }
+
+-- "synchronizes; the last identifier becomes 0"
+unfoldable pub synced : SyncKind → Control → List Head → Control
+synced k c hs =
+    withBuffers (withEvents (withMode c (withLast (withSynced (c .mode) true) 0)) (syncEvents k (c .events)))
+    (withArmed (c .buffers) (maskOf (arms c hs)))
+
+-- "a master emits alarm if ALARM is set, else normal, and acts as if it had received it; a slave ignores it"
+unfoldable pub syncDuePlan : Control → List Head → Plan
+syncDuePlan c hs =
+    pick (c .mode .master)
+    (pick (c .mode .alarm) (plain (synced Alarm c hs) (Pulse Alarm)) (plain (synced Normal c hs) (Pulse Normal)))
+    (plain c Ignored)
+
+-- "Alarm timeout clears ALARM."
+unfoldable pub timedOut : Control → Control
+timedOut c = withMode c (withAlarm (c .mode) false)
+
+-- ---- faults
+
+-- "lost sets SYNLIF, unsynchronizes, clears arming", and cancels a remembered clear
+unfoldable pub lostEvents : Events → Events
+lostEvents f = record { risr = f .risr; gisr = bitOr (f .gisr) SYNLIF; clearing = false }
+
+unfoldable pub faulted : Fault → Control → Control
+faulted Early c = raiseGisr c SYNEIF
+faulted Lost c = disarmAll (withEvents (withMode c (withSynced (c .mode) false)) (lostEvents (c .events)))
+faulted Illegal c = raiseGisr c ILLPIF
+faulted Mismatch c = raiseRisr c SLMMIF
+
+-- ---- frames
+
+-- buffer n is a dedicated receive buffer with identifier i
+unfoldable pub carries : Control → List Head → ℕ → ℕ → Bool
+carries c hs i n = isReceive c n && eqb (headAt hs n .ident) i
+
+-- "The frame's buffer is the lowest dedicated receive buffer with that identifier (h)", or none
+unfoldable pub lookup : Control → List Head → ℕ → ℕ
+lookup c hs i = lowest (carries c hs i) 0 16
+
+-- "Locked: nothing is stored. Unlocked: stored, IFLG set."
+unfoldable pub toBuffer : Control → ℕ → Plan
+toBuffer c n =
+    pick (isLocked c n) (plain c (HeldOff n))
+    (record {
+      control = withBuffers c (withIflg (c .buffers) (putBit (c .buffers .iflg) n true));
+      moves = store n ∷ [];
+      reply = say (Stored n);
+    })
+
+-- "the FIFO takes it if FSIZ > 0 and it is accepted and not rejected"
+unfoldable pub fifoTakes : Control → ℕ → Bool
+fifoTakes c i = ltb 0 (c .config .fsiz) && matches (c .config .accept) i && not (matches (c .config .reject) i)
+
+-- the FIFO with one more entry, in its next place
+abbrev pub withEntry : Control → Fifo
+withEntry c =
+    record {
+      oldest = c .fifo .oldest;
+      next = placeAfter (c .config .fsiz) (c .fifo .next);
+      count = c .fifo .count + 1;
+      locked = c .fifo .locked;
+    }
+
+-- "in place 0 first after initialization, then in the place after the last one used [..]. A full FIFO sets OVRNIF and
+-- drops the new frame (h). Otherwise 'unmatched'."
+unfoldable pub toFifo : Control → ℕ → Plan
+toFifo c i =
+    pick (fifoTakes c i)
+    (pick (leb (c .config .fsiz) (c .fifo .count)) (plain (raiseGisr c OVRNIF) Overrun)
+    (record { control = withFifo c (withEntry c); moves = store (c .fifo .next) ∷ []; reply = say (Queued (c .fifo .next)) }))
+    (plain c Unmatched)
+
+-- "the last identifier becomes the larger of itself and this one"
+unfoldable pub raiseLast : Control → ℕ → Control
+raiseLast c i = withMode c (withLast (c .mode) (max (c .mode .last) i))
+
+-- a sound frame with identifier i, whose buffer is n, or none
+unfoldable pub found : Control → ℕ → ℕ → Plan
+found c i n = pick (ltb n 16) (toBuffer (raiseLast c i) n) (toFifo (raiseLast c i) i)
+
+-- "unsynchronized, ignored. A bad verdict or identifier 0 sets ERRIF ('badframe')."
+unfoldable pub received : Control → List Head → Bool → ℕ → Plan
+received c hs good i =
+    pick (not (c .mode .synced)) (plain c Ignored)
+    (pick (not good || eqb i 0) (plain (raiseGisr c ERRIF) BadFrame) (found c i (lookup c hs i)))
+
+-- ---- slots
+
+-- buffer n is armed and carries identifier i
+unfoldable pub offers : Control → List Head → ℕ → ℕ → Bool
+offers c hs i n = isArmed c n && eqb (headAt hs n .ident) i
+
+-- "the highest is sent: IFLG set, disarmed, last identifier i"
+abbrev pub sentBuffers : Control → ℕ → Control
+sentBuffers c n =
+    withBuffers c (withArmed (withIflg (c .buffers) (putBit (c .buffers .iflg) n true)) (putBit (c .buffers .armed) n false))
+
+unfoldable pub sendFrom : Control → ℕ → ℕ → Plan
+sendFrom c i n =
+    pick (isLocked c n) (plain c (HeldBack n))
+    (record { control = withMode (sentBuffers c n) (withLast (c .mode) i); moves = []; reply = send n })
+
+-- "unsynchronized, ignored. If i exceeds the last identifier and armed buffers carry i, the highest is sent [..]. If that
+-- buffer is locked, 'heldback' and nothing changes. Otherwise 'notsent'."
+unfoldable pub slotted : Control → List Head → ℕ → Plan
+slotted c hs i =
+    let n = highest (offers c hs i) 16 in
+    pick (not (c .mode .synced)) (plain c Ignored)
+    (pick (ltb (c .mode .last) i && ltb n 16) (sendFrom c i n) (plain c NotSent))

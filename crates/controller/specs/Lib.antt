@@ -1,0 +1,16 @@
+pub mod Record
+pub mod Registers
+pub mod Kinds
+pub mod Modes
+pub mod Bus
+pub mod Flags
+pub mod Refusals
+pub mod Steps
+pub mod Plan
+pub mod Reads
+pub mod Writes
+pub mod Answers
+pub mod Session
+pub mod Rules
+pub mod View
+pub mod Demand3

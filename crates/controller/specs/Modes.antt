@@ -1,0 +1,109 @@
+-- Document 01, 'Modes': entering and leaving initialization, sleeping and waking, and the write of $00 that does so.
+use Prim.Native.Nat.{ℕ}
+use mathlib.Core.Bool.{Bool, true, false, _||_}
+use lib.Bits.{bitAnd}
+use Rattle.masks.specs.Pick.{pick}
+use Rattle.masks.specs.Bits.{maskOf}
+use Rattle.controller.specs.declared.Mode.{Mode}
+use Rattle.controller.specs.declared.Buffers.{Buffers}
+use Rattle.controller.specs.declared.Control.{Control}
+use Rattle.controller.specs.Record.{withMode, withBuffers, withSleep, withSynced, withArmed, withIflg, withRier, withGier}
+use Rattle.controller.specs.Registers.{has, INITRQ, MASTER, ALARM, SLPRQ, WPULSE, SSWAI, LOCKIE, noEvents, emptyFifo}
+use Rattle.controller.specs.Kinds.{isTransmit, hasIflg}
+
+-- ---- initialization
+
+-- INITRQ and INITAK 1; no synchronization and no sleep
+abbrev pub enteredMode : Mode → Mode
+enteredMode m =
+    record {
+      init = true;
+      master = m .master;
+      alarm = m .alarm;
+      slpak = false;
+      slprq = false;
+      wpulse = m .wpulse;
+      sswai = m .sswai;
+      synced = false;
+      last = m .last;
+    }
+
+-- "every IFLG and ABTAK, arming"
+abbrev pub enteredBuffers : Buffers → Buffers
+enteredBuffers b = record { cfg = b .cfg; iena = b .iena; iflg = 0; abtak = 0; armed = 0 }
+
+-- "Entering initialization (INITRQ 0 to 1, or a lock error) clears $08, $09 but LOCKIE, all event flags, every IFLG and
+-- ABTAK, arming, synchronization, sleep and any remembered clear. It empties the FIFO, both indices 0, and releases the
+-- FIFO lock. [It] changes nothing else, so other locks stay."
+unfoldable pub enter : Control → Control
+enter c =
+    record {
+      mode = enteredMode (c .mode);
+      config = withGier (withRier (c .config) 0) (bitAnd (c .config .gier) LOCKIE);
+      events = noEvents;
+      fifo = emptyFifo;
+      receive = c .receive;
+      transmit = c .transmit;
+      buffers = enteredBuffers (c .buffers);
+    }
+
+abbrev pub leftMode : Mode → Mode
+leftMode m =
+    record {
+      init = false;
+      master = m .master;
+      alarm = m .alarm;
+      slpak = m .slpak;
+      slprq = m .slprq;
+      wpulse = m .wpulse;
+      sswai = m .sswai;
+      synced = false;
+      last = m .last;
+    }
+
+-- "Leaving it sets IFLG of every transmit buffer; the module is unsynchronized."
+unfoldable pub leave : Control → Control
+leave c =
+    withBuffers (withMode c (leftMode (c .mode))) (withIflg (c .buffers) (maskOf (λ n. isTransmit c n || hasIflg c n)))
+
+-- ---- sleep
+
+abbrev pub disarmAll : Control → Control
+disarmAll c = withBuffers c (withArmed (c .buffers) 0)
+
+-- "Every waking clears SLPRQ and SLPAK, loses synchronization and clears arming."
+unfoldable pub wake : Control → Control
+wake c = disarmAll (withMode c (withSynced (withSleep (c .mode) false) false))
+
+-- "SLPRQ 1 sets SLPRQ and SLPAK if [..] BFEN is 1; otherwise it is ignored. SLPRQ written 0 while asleep wakes, without
+-- WAKEIF", in normal operation before and after the write
+unfoldable pub writeSleep : Control → Bool → Control
+writeSleep c true = pick (c .config .bfen) (withMode c (withSleep (c .mode) true)) c
+writeSleep c false = pick (c .mode .slpak) (wake c) c
+
+-- ---- $00
+
+-- every accepted write sets ALARM and SSWAI; "MASTER and WPULSE change only if the module was in initialization before"
+abbrev pub writtenMode : Mode → ℕ → Mode
+writtenMode m v =
+    record {
+      init = m .init;
+      master = pick (m .init) (has v MASTER) (m .master);
+      alarm = has v ALARM;
+      slpak = m .slpak;
+      slprq = m .slprq;
+      wpulse = pick (m .init) (has v WPULSE) (m .wpulse);
+      sswai = has v SSWAI;
+      synced = m .synced;
+      last = m .last;
+    }
+
+-- by the mode before, INITRQ and SLPRQ written
+unfoldable pub modeBy : Bool → Bool → Bool → Control → Control
+modeBy true true s c = c
+modeBy true false s c = leave c
+modeBy false true s c = enter c
+modeBy false false s c = writeSleep c s
+
+unfoldable pub writeMcr : Control → ℕ → Control
+writeMcr c v = modeBy (c .mode .init) (has v INITRQ) (has v SLPRQ) (withMode c (writtenMode (c .mode) v))

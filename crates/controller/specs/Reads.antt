@@ -1,0 +1,102 @@
+-- What the registers read (document 01, 'Register bits').
+use Prim.Native.Nat.{ℕ, _-_}
+use mathlib.Core.Bool.{Bool}
+use mathlib.Core.List.{List}
+use lib.Dec.{eqb, ltb}
+use Rattle.masks.specs.Pick.{pick}
+use Rattle.locks.specs.Pair.{hasHolder}
+use Rattle.contents.specs.Bytes.{Head}
+use Rattle.controller.specs.declared.Register.{Register}
+use Rattle.controller.specs.declared.Register.the-variants.{Mcr, Fsizr, Tcr1, Tcr2, Tcr3, Risr, Gisr, Rier, Gier, Rivec, Tivec, Fidac, Fidmr, Mvr, Pctlbf, Buflock, Fidrj, Fidrmr, TransmitWindow, ReceiveWindow, FifoWindow, Bufctl, Reserved}
+use Rattle.controller.specs.declared.Answer.the-variants.{Value}
+use Rattle.controller.specs.declared.Mode.{Mode}
+use Rattle.controller.specs.declared.Control.{Control}
+use Rattle.controller.specs.Registers.{withFlag, INITRQ, MASTER, ALARM, SLPAK, SLPRQ, WPULSE, SSWAI, INITAK, BFEN, TXBUFLOCK, RXBUFLOCK, CFG, IENA, IFLG, LOCK, ABTAK}
+use Rattle.controller.specs.Kinds.{isTransmit, hasIena, hasIflg, hasAbtak, isLocked, fifoHolder}
+use Rattle.controller.specs.Flags.{risr, gisr, receiveVector, transmitVector}
+use Rattle.controller.specs.Plan.{headAt, Reply, say, show}
+
+unfoldable pub mcr : Mode → ℕ
+mcr m =
+    withFlag (m .init) INITAK
+    (withFlag (m .sswai) SSWAI
+    (withFlag (m .wpulse) WPULSE
+    (withFlag (m .slprq) SLPRQ
+    (withFlag (m .slpak) SLPAK
+    (withFlag (m .alarm) ALARM
+    (withFlag (m .master) MASTER
+    (withFlag (m .init) INITRQ 0)))))))
+
+-- $12; a contender never stands without its holder
+unfoldable pub buflock : Control → ℕ
+buflock c = withFlag (hasHolder (c .receive)) RXBUFLOCK (withFlag (hasHolder (c .transmit)) TXBUFLOCK 0)
+
+-- "7 CFG (1 transmit), 6 IENA, 5 IFLG, 4 LOCK, 3 ABTRQ (reads 0), 2 ABTAK"
+unfoldable pub bufctl : Control → ℕ → ℕ
+bufctl c n =
+    withFlag (hasAbtak c n) ABTAK
+    (withFlag (isLocked c n) LOCK
+    (withFlag (hasIflg c n) IFLG
+    (withFlag (hasIena c n) IENA
+    (withFlag (isTransmit c n) CFG 0))))
+
+-- every register but the windows
+unfoldable pub valueOf : Control → Register → ℕ
+valueOf c Mcr = mcr (c .mode)
+valueOf c Fsizr = c .config .fsiz
+valueOf c Tcr1 = c .config .tcr1
+valueOf c Tcr2 = c .config .tcr2
+valueOf c Tcr3 = c .config .tcr3
+valueOf c Risr = risr c
+valueOf c Gisr = gisr c
+valueOf c Rier = c .config .rier
+valueOf c Gier = c .config .gier
+valueOf c Rivec = receiveVector c
+valueOf c Tivec = transmitVector c
+valueOf c Fidac = c .config .accept .pattern
+valueOf c Fidmr = c .config .accept .mask
+valueOf c Mvr = 0
+valueOf c Pctlbf = withFlag (c .config .bfen) BFEN 0
+valueOf c Buflock = buflock c
+valueOf c Fidrj = c .config .reject .pattern
+valueOf c Fidrmr = c .config .reject .mask
+valueOf c (TransmitWindow p) = 0
+valueOf c (ReceiveWindow p) = 0
+valueOf c (FifoWindow p) = 0
+valueOf c (Bufctl n) = bufctl c n
+valueOf c Reserved = 0
+
+-- identifier or length
+abbrev pub headByte : Head → ℕ → ℕ
+headByte h p = pick (eqb p 0) (h .ident) (h .len)
+
+-- Place p of a window whose holder is n. "With no holder a window reads 0": past the last buffer the head is 0.
+unfoldable pub windowReply : List Head → ℕ → ℕ → Reply
+windowReply hs n p =
+    pick (ltb p 2) (say (Value (headByte (headAt hs n) p)))
+    (pick (ltb n 16) (show n (p - 2)) (say (Value 0)))
+
+unfoldable pub readReply : Control → List Head → Register → Reply
+readReply c hs Mcr = say (Value (valueOf c Mcr))
+readReply c hs Fsizr = say (Value (valueOf c Fsizr))
+readReply c hs Tcr1 = say (Value (valueOf c Tcr1))
+readReply c hs Tcr2 = say (Value (valueOf c Tcr2))
+readReply c hs Tcr3 = say (Value (valueOf c Tcr3))
+readReply c hs Risr = say (Value (valueOf c Risr))
+readReply c hs Gisr = say (Value (valueOf c Gisr))
+readReply c hs Rier = say (Value (valueOf c Rier))
+readReply c hs Gier = say (Value (valueOf c Gier))
+readReply c hs Rivec = say (Value (valueOf c Rivec))
+readReply c hs Tivec = say (Value (valueOf c Tivec))
+readReply c hs Fidac = say (Value (valueOf c Fidac))
+readReply c hs Fidmr = say (Value (valueOf c Fidmr))
+readReply c hs Mvr = say (Value (valueOf c Mvr))
+readReply c hs Pctlbf = say (Value (valueOf c Pctlbf))
+readReply c hs Buflock = say (Value (valueOf c Buflock))
+readReply c hs Fidrj = say (Value (valueOf c Fidrj))
+readReply c hs Fidrmr = say (Value (valueOf c Fidrmr))
+readReply c hs (TransmitWindow p) = windowReply hs (c .transmit .holder) p
+readReply c hs (ReceiveWindow p) = windowReply hs (c .receive .holder) p
+readReply c hs (FifoWindow p) = windowReply hs (fifoHolder c) p
+readReply c hs (Bufctl n) = say (Value (valueOf c (Bufctl n)))
+readReply c hs Reserved = say (Value (valueOf c Reserved))

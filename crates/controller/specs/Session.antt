@@ -1,0 +1,73 @@
+-- A session: a list of steps from a record, each given the record that the last one returned, and a report for each. It
+-- is stated for any rules; Rules.antt has document 01's.
+use Prim.Native.Nat.{ℕ}
+use mathlib.Core.Bool.{Bool}
+use mathlib.Core.List.{List, [], _∷_}
+use Rattle.masks.specs.Pick.{pick}
+use Rattle.contents.specs.Payload.{zeros, hideData, seenPart}
+use Rattle.controller.specs.declared.Control.{Control}
+use Rattle.controller.specs.declared.Controller.{Controller}
+use Rattle.controller.specs.Steps.{Step, readsData, hide}
+use Rattle.controller.specs.Plan.{Rules, Outcome, carry, heads}
+use Rattle.controller.specs.Answers.{Word, wordOf, Detail, dash, value, buffer, bytes, kind, number, detailOf}
+
+-- What a step reports: the replay text's answer and detail, the content of the lent room, and the five lines after the
+-- step. A count that a later request reports is one more field here.
+pub record Report : Type 0 where
+  pub word : Word
+  pub detail : Detail
+  pub room : List ℕ
+  pub lines : ℕ
+
+abbrev pub reportOf : (Control → ℕ) → Outcome → Report
+reportOf lines o =
+    record {
+      word = wordOf (o .answer);
+      detail = detailOf (o .answer) (o .sent);
+      room = o .room;
+      lines = lines (o .next .control);
+    }
+
+-- One step under some rules. They are given the step with its payload put to 0 and the heads of the buffers.
+abbrev pub stepBy : Rules → Controller → Step → Outcome
+stepBy decide c e = carry e (c .rows) (decide (c .control) (heads (c .rows)) (hide e))
+
+module _ (decide : Rules) (lines : Control → ℕ) where
+  -- the reports of a session that starts with the record c
+  unfoldable pub runBy : Controller → List Step → List Report
+  runBy c [] = []
+  runBy c (e ∷ es) = reportOf lines (stepBy decide c e) ∷ runBy (stepBy decide c e .next) es
+
+-- the record after it
+unfoldable pub endBy : Rules → Controller → List Step → Controller
+endBy decide c [] = c
+endBy decide c (e ∷ es) = endBy decide (stepBy decide c e .next) es
+
+-- ---- what alike sessions agree on: "except a value read from a data register and a sent frame's bytes from byte 2 on"
+
+-- the detail with those put to 0; the test says that a data register was read
+abbrev pub seenDetail : Bool → Detail → Detail
+seenDetail d dash = dash
+seenDetail d (value v) = value (pick d 0 v)
+seenDetail d (buffer n) = buffer n
+seenDetail d (bytes f) = bytes (hideData f)
+seenDetail d (kind k) = kind k
+seenDetail d (number r) = number r
+
+-- the room with its free content and the sent data bytes put to 0
+abbrev pub seenRoom : Detail → List ℕ → List ℕ
+seenRoom dash room = zeros room
+seenRoom (value v) room = zeros room
+seenRoom (buffer n) room = zeros room
+seenRoom (bytes f) room = seenPart f room
+seenRoom (kind k) room = zeros room
+seenRoom (number r) room = zeros room
+
+abbrev pub seen : Step → Report → Report
+seen e r =
+    record { word = r .word; detail = seenDetail (readsData e) (r .detail); room = seenRoom (r .detail) (r .room); lines = r .lines }
+
+abbrev pub seenAll : List Step → List Report → List Report
+seenAll [] rs = []
+seenAll (e ∷ es) [] = []
+seenAll (e ∷ es) (r ∷ rs) = seen e r ∷ seenAll es rs

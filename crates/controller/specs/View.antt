@@ -1,0 +1,191 @@
+-- Payload never steers, whatever the rules are: the public view of a controller goes from step to step by itself, and what
+-- is seen of a report follows from it.
+use mathlib.Core.Path.{_≡_, refl, sym, ap, _∙_}
+use Prim.Native.Nat.{ℕ, zero, suc, _+_, min}
+use mathlib.Core.Bool.{Bool, true, false}
+use mathlib.Core.List.{List, [], _∷_, map}
+use lib.ListN.{getD, set, drop, replicate, length, List·getD-map}
+use Rattle.masks.specs.Pick.{pick}
+use Rattle.contents.specs.declared.Contents.{Contents}
+use Rattle.contents.specs.Bytes.{Head, noHead, headOf, noContents, dataAt, withIdent, withLength, withData, cut, storeFrame, frameOf, fillRoom}
+use Rattle.contents.specs.Payload.{zeros, hideData, zeros-zeros, hide-ident, hide-length, head-ident, head-length, head-data, head-store, headFrame, frame-head, head-hide, seenPart, room-head}
+use Rattle.controller.specs.declared.Control.{Control}
+use Rattle.controller.specs.declared.Controller.{Controller}
+use Rattle.controller.specs.declared.Answer.{Answer}
+use Rattle.controller.specs.declared.Answer.the-variants.{Ok, Value, Stored, Queued, HeldOff, HeldBack, Sent, Pulse, Refused, Overrun, Unmatched, BadFrame, Ignored, Woke, NotSent}
+use Rattle.controller.specs.Steps.{Step, reset, read, write, sync, syncDue, slot, frame, fault, timeout, readsData, valueIn, frameIn, roomIn, hide}
+use Rattle.controller.specs.Plan.{heads, headAt, rowAt, Move, wipe, setIdent, setLength, setData, store, Reply, say, show, send, Plan, Rules, move, moveAll, answerOf, sentOf, Outcome, carry}
+use Rattle.controller.specs.Answers.{Word, wordOf, Detail, dash, value, buffer, bytes, kind, number, detailOf}
+use Rattle.controller.specs.Session.{Report, reportOf, stepBy, runBy, seenDetail, seenRoom, seen, seenAll}
+
+-- ---- the heads after a move
+
+heads-set : (rows : List Contents) (n : ℕ) (b : Contents) → heads (set rows n b) ≡ set (heads rows) n (headOf b)
+heads-set [] n b = refl
+heads-set (r ∷ rows) zero b = refl
+heads-set (r ∷ rows) (suc n) b = ap (λ (t : List Head). headOf r ∷ t) (heads-set rows n b)
+
+pub head-at : (rows : List Contents) (n : ℕ) → headAt (heads rows) n ≡ headOf (rowAt rows n)
+head-at rows n = List·getD-map headOf rows n noContents
+
+frame-hide : (e : Step) → frameIn (hide e) ≡ hideData (frameIn e)
+frame-hide reset = refl
+frame-hide (read a) = refl
+frame-hide (write a v) = refl
+frame-hide (sync k) = refl
+frame-hide syncDue = refl
+frame-hide (slot i room) = refl
+frame-hide (frame good f) = refl
+frame-hide (fault k) = refl
+frame-hide timeout = refl
+
+room-hide : (e : Step) → roomIn (hide e) ≡ zeros (roomIn e)
+room-hide reset = refl
+room-hide (read a) = refl
+room-hide (write a v) = refl
+room-hide (sync k) = refl
+room-hide syncDue = refl
+room-hide (slot i room) = refl
+room-hide (frame good f) = refl
+room-hide (fault k) = refl
+room-hide timeout = refl
+
+reads-hide : (e : Step) → readsData (hide e) ≡ readsData e
+reads-hide reset = refl
+reads-hide (read a) = refl
+reads-hide (write a v) = refl
+reads-hide (sync k) = refl
+reads-hide syncDue = refl
+reads-hide (slot i room) = refl
+reads-hide (frame good f) = refl
+reads-hide (fault k) = refl
+reads-hide timeout = refl
+
+-- a move as it shows in the heads, from the hidden step's frame
+unfoldable pub headMove : List ℕ → Move → List Head → List Head
+headMove f wipe hs = replicate 16 noHead
+headMove f (setIdent n v) hs = set hs n (record { ident = v; len = headAt hs n .len })
+headMove f (setLength n v) hs = set hs n (record { ident = headAt hs n .ident; len = v })
+headMove f (setData n j) hs = set hs n (headAt hs n)
+headMove f (store n) hs = set hs n (record { ident = getD f 0 0; len = cut (getD f 1 0) })
+
+unfoldable pub headMoves : List ℕ → List Move → List Head → List Head
+headMoves f [] hs = hs
+headMoves f (m ∷ ms) hs = headMoves f ms (headMove f m hs)
+
+heads-move : (e : Step) (m : Move) (rows : List Contents) → heads (move e m rows) ≡ headMove (frameIn (hide e)) m (heads rows)
+unfolding headMove
+heads-move e wipe rows = refl
+heads-move e (setIdent n v) rows = simp (heads-set, head-ident, head-at)
+heads-move e (setLength n v) rows = simp (heads-set, head-length, head-at)
+heads-move e (setData n j) rows = simp (heads-set, head-data, head-at)
+heads-move e (store n) rows = simp (heads-set, head-store, frame-hide, hide-ident, hide-length)
+
+heads-moves : (e : Step) (ms : List Move) (rows : List Contents) → heads (moveAll e ms rows) ≡ headMoves (frameIn (hide e)) ms (heads rows)
+unfolding headMoves moveAll
+heads-moves e [] rows = refl
+heads-moves e (m ∷ ms) rows = heads-moves e ms (move e m rows) ∙ ap (headMoves (frameIn (hide e)) ms) (heads-move e m rows)
+
+-- ---- what is seen of a reply
+
+-- a data byte that is shown is not seen
+seen-shown : (d : Bool) (x : ℕ) → pick d 0 (pick d x 0) ≡ 0
+unfolding pick
+seen-shown true x = refl
+seen-shown false x = refl
+
+headAnswer : List Head → Reply → Answer
+headAnswer hs (say a) = a
+headAnswer hs (show n j) = Value 0
+headAnswer hs (send n) = Sent (2 + min 12 (headAt hs n .len))
+
+headSent : List Head → Reply → List ℕ
+headSent hs (say a) = []
+headSent hs (show n j) = []
+headSent hs (send n) = headFrame (headAt hs n)
+
+-- the report on the public view of the rules' plan
+headReport : (Control → ℕ) → List Head → Step → Plan → Report
+headReport lines hs e p =
+    record {
+      word = wordOf (headAnswer hs (p .reply));
+      detail = seenDetail (readsData e) (detailOf (headAnswer hs (p .reply)) (headSent hs (p .reply)));
+      room = seenRoom (detailOf (headAnswer hs (p .reply)) (headSent hs (p .reply))) (fillRoom (headSent hs (p .reply)) (roomIn e));
+      lines = lines (p .control);
+    }
+
+seen-none : (d : Bool) → pick {A = ℕ} d 0 0 ≡ 0
+unfolding pick
+seen-none true = refl
+seen-none false = refl
+
+-- where no frame was sent nothing of the room is seen but its length
+room-free : (a : Answer) (room : List ℕ) → seenRoom (detailOf a []) room ≡ seenRoom (detailOf a []) (zeros room)
+room-free Ok room = sym (zeros-zeros room)
+room-free (Value v) room = sym (zeros-zeros room)
+room-free (Stored n) room = sym (zeros-zeros room)
+room-free (Queued n) room = sym (zeros-zeros room)
+room-free (HeldOff n) room = sym (zeros-zeros room)
+room-free (HeldBack n) room = sym (zeros-zeros room)
+room-free (Sent k) room = sym (zeros-zeros room)
+room-free (Pulse k) room = sym (zeros-zeros room)
+room-free (Refused r) room = sym (zeros-zeros room)
+room-free Overrun room = sym (zeros-zeros room)
+room-free Unmatched room = sym (zeros-zeros room)
+room-free BadFrame room = sym (zeros-zeros room)
+room-free Ignored room = sym (zeros-zeros room)
+room-free Woke room = sym (zeros-zeros room)
+room-free NotSent room = sym (zeros-zeros room)
+
+report-by : (lines : Control → ℕ) (e : Step) (rows : List Contents) (c : Control) (ms : List Move) (r : Reply) →
+    seen e (reportOf lines (carry e rows (record { control = c; moves = ms; reply = r })))
+    ≡ headReport lines (heads rows) (hide e) (record { control = c; moves = ms; reply = r })
+unfolding carry headReport headAnswer headSent fillRoom
+report-by lines e rows c ms (say a) = simp (reads-hide, room-hide, room-free a (roomIn e))
+report-by lines e rows c ms (show n j) = simp (reads-hide, room-hide, seen-shown, seen-none, zeros-zeros)
+report-by lines e rows c ms (send n) = simp (room-hide, head-at, frame-head, head-hide, room-head)
+
+-- ---- the view
+
+pub record View : Type 0 where
+  pub control : Control
+  pub heads : List Head
+
+abbrev pub viewOf : Controller → View
+viewOf c = record { control = c .control; heads = heads (c .rows) }
+
+module _ (decide : Rules) where
+  abbrev planOf : View → Step → Plan
+  planOf w e = decide (w .control) (w .heads) e
+
+  -- the next view, from the view and the hidden step alone
+  unfoldable pub viewNext : View → Step → View
+  viewNext w e = record { control = planOf w e .control; heads = headMoves (frameIn e) (planOf w e .moves) (w .heads) }
+
+  pub step-view : (c : Controller) (e : Step) → viewOf (stepBy decide c e .next) ≡ viewNext (viewOf c) (hide e)
+  unfolding viewNext carry
+  step-view c e = simp heads-moves
+
+module _ (decide : Rules) (lines : Control → ℕ) where
+  -- what is seen of the report, from the same
+  viewReport : View → Step → Report
+  viewReport w e = headReport lines (w .heads) e (planOf decide w e)
+
+  report-view : (c : Controller) (e : Step) → seen e (reportOf lines (stepBy decide c e)) ≡ viewReport (viewOf c) (hide e)
+  unfolding viewReport
+  report-view c e =
+      let p = decide (c .control) (heads (c .rows)) (hide e) in
+      report-by lines e (c .rows) (p .control) (p .moves) (p .reply)
+
+  viewRun : View → List Step → List Report
+  viewRun w [] = []
+  viewRun w (e ∷ es) = viewReport w e ∷ viewRun (viewNext decide w e) es
+
+  run-view : (c : Controller) (es : List Step) → seenAll es (runBy decide lines c es) ≡ viewRun (viewOf c) (map hide es)
+  unfolding viewRun runBy
+  run-view c [] = refl
+  run-view c (e ∷ es) = simp (report-view, run-view (stepBy decide c e .next) es, step-view)
+
+  -- two alike sessions are seen alike
+  pub never-steers : (c : Controller) (xs ys : List Step) → map hide xs ≡ map hide ys → seenAll xs (runBy decide lines c xs) ≡ seenAll ys (runBy decide lines c ys)
+  never-steers c xs ys h = run-view c xs ∙ ap (viewRun (viewOf c)) h ∙ sym (run-view c ys)
