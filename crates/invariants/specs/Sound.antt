@@ -1,0 +1,107 @@
+-- What holds of every record that a session reaches from reset, as one record of facts about its public view: the control
+-- state c and the buffers' heads.
+use mathlib.Core.Path.{_≡_}
+use Prim.Native.Nat.{ℕ, _+_, _≤_, _<_}
+use mathlib.Core.Bool.{Bool, true, false, _&&_, _||_}
+use mathlib.Core.List.{List}
+use lib.ListN.{length}
+use lib.Dec.{eqb, ltb, leb}
+use Rattle.locks.specs.declared.Locks.{Locks}
+use Rattle.contents.specs.Bytes.{Head}
+use Rattle.controller.specs.declared.Fifo.{Fifo}
+use Rattle.controller.specs.declared.Control.{Control}
+use Rattle.controller.specs.Registers.{has, SYNLIF, emptyFifo}
+use Rattle.controller.specs.Kinds.{isTransmit, isFifo, isReceive, isLocked, isLawful, hasIflg, hasAbtak, isArmed}
+use Rattle.controller.specs.Plan.{headAt}
+use Rattle.controller.specs.View.{View}
+
+-- the locks of a kind: both of that kind and different, and a contender only with a holder
+pub record PairSound (kind : ℕ → Bool) (l : Locks) : Type 0 where
+  pub holder-le : l .holder ≤ 16
+  pub contender-le : l .contender ≤ 16
+  pub holder-kind : l .holder < 16 → kind (l .holder) ≡ true
+  pub contender-kind : l .contender < 16 → kind (l .contender) ≡ true
+  pub contender-held : l .contender < 16 → l .holder < 16
+  pub apart : l .contender < 16 → l .holder ≡ l .contender → ⊥
+
+pub record LocksSound (w : View) : Type 0 where
+  pub receive : PairSound (isReceive (w .control)) (w .control .receive)
+  pub transmit : PairSound (isTransmit (w .control)) (w .control .transmit)
+
+-- at most FSIZ entries from the oldest on, the next place behind the last of them, FSIZ following FSIZ − 1 by 0
+pub record FifoSound (w : View) : Type 0 where
+  pub size-le : w .control .config .fsiz ≤ 16
+  pub count-le : w .control .fifo .count ≤ w .control .config .fsiz
+  pub oldest-lt : 0 < w .control .config .fsiz → w .control .fifo .oldest < w .control .config .fsiz
+  pub next-lt : 0 < w .control .config .fsiz → w .control .fifo .next < w .control .config .fsiz
+  pub next-low : w .control .fifo .oldest + w .control .fifo .count < w .control .config .fsiz →
+      w .control .fifo .next ≡ w .control .fifo .oldest + w .control .fifo .count
+  pub next-high : w .control .config .fsiz ≤ w .control .fifo .oldest + w .control .fifo .count →
+      w .control .fifo .next + w .control .config .fsiz ≡ w .control .fifo .oldest + w .control .fifo .count
+  -- a FIFO lock only with an entry
+  pub lock-entry : w .control .fifo .locked ≡ true → 0 < w .control .fifo .count
+
+-- nothing of what entering initialization clears, but for the enables, which may be written there
+pub record Idle (c : Control) : Type 0 where
+  pub risr : c .events .risr ≡ 0
+  pub gisr : c .events .gisr ≡ 0
+  pub clearing : c .events .clearing ≡ false
+  pub iflg : c .buffers .iflg ≡ 0
+  pub abtak : c .buffers .abtak ≡ 0
+  pub armed : c .buffers .armed ≡ 0
+  pub slpak : c .mode .slpak ≡ false
+  pub slprq : c .mode .slprq ≡ false
+  pub synced : c .mode .synced ≡ false
+  pub fifo : c .fifo ≡ emptyFifo
+
+pub record ModeSound (w : View) : Type 0 where
+  pub idle : w .control .mode .init ≡ true → Idle (w .control)
+  -- outside initialization the layout is lawful
+  pub lawful : w .control .mode .init ≡ false → isLawful (w .control) ≡ true
+  -- SLPAK only with SLPRQ
+  pub asleep : w .control .mode .slpak ≡ true → w .control .mode .slprq ≡ true
+  -- a remembered clear only of a standing SYNLIF, unsynchronized
+  pub clear-stands : w .control .events .clearing ≡ true → has (w .control .events .gisr) SYNLIF ≡ true
+  pub clear-unsynced : w .control .events .clearing ≡ true → w .control .mode .synced ≡ false
+
+-- the control bits of buffer n
+pub record BitsSound (w : View) : Type 0 where
+  pub abtak-transmit : (n : ℕ) → n < 16 → hasAbtak (w .control) n ≡ true → isTransmit (w .control) n ≡ true
+  pub abtak-iflg : (n : ℕ) → n < 16 → hasAbtak (w .control) n ≡ true → hasIflg (w .control) n ≡ true
+  -- "A FIFO buffer's IFLG is always 0."
+  pub fifo-iflg : (n : ℕ) → n < 16 → isFifo (w .control) n ≡ true → hasIflg (w .control) n ≡ false
+
+-- an armed buffer n
+pub record Armed (w : View) (n : ℕ) : Type 0 where
+  pub transmit : isTransmit (w .control) n ≡ true
+  pub full : hasIflg (w .control) n ≡ false
+  pub unlocked : isLocked (w .control) n ≡ false
+  pub named : eqb (headAt (w .heads) n .ident) 0 ≡ false
+  pub synced : w .control .mode .synced ≡ true
+
+pub record ArmingSound (w : View) : Type 0 where
+  pub armed : (n : ℕ) → n < 16 → isArmed (w .control) n ≡ true → Armed w n
+
+-- place n holds an entry of the FIFO
+unfoldable pub isEntry : Control → ℕ → Bool
+isEntry c n =
+    ltb n (c .config .fsiz)
+    && ((leb (c .fifo .oldest) n && ltb n (c .fifo .oldest + c .fifo .count)) || ltb (n + c .config .fsiz) (c .fifo .oldest + c .fifo .count))
+
+pub record ContentsSound (w : View) : Type 0 where
+  pub sixteen : length (w .heads) ≡ 16
+  pub length-le : (n : ℕ) → headAt (w .heads) n .len ≤ 15
+  -- a received length is cut to 12
+  pub received-le : (n : ℕ) → n < 16 → isReceive (w .control) n ≡ true → hasIflg (w .control) n ≡ true → headAt (w .heads) n .len ≤ 12
+  pub entry-le : (n : ℕ) → isEntry (w .control) n ≡ true → headAt (w .heads) n .len ≤ 12
+  -- FIFO entries carry no receive buffer's identifier
+  pub entry-unmatched : (m n : ℕ) → isEntry (w .control) m ≡ true → n < 16 → isReceive (w .control) n ≡ true →
+      eqb (headAt (w .heads) n .ident) (headAt (w .heads) m .ident) ≡ false
+
+pub record Sound (w : View) : Type 0 where
+  pub locks : LocksSound w
+  pub fifo : FifoSound w
+  pub modes : ModeSound w
+  pub bits : BitsSound w
+  pub arming : ArmingSound w
+  pub contents : ContentsSound w
