@@ -14,3 +14,6 @@ pub mod Session
 pub mod Rules
 pub mod View
 pub mod Demand3
+pub mod Unchanged
+pub mod Untouched
+pub mod Examples

@@ -1,9 +1,9 @@
 -- Control plane and data plane. The rules see the control state, the buffers' identifiers and lengths, and a step with
 -- its payload put to 0; they answer a plan, which is then carried out on the buffers' bytes.
-use Prim.Native.Nat.{ℕ, _+_, min}
+use Prim.Native.Nat.{ℕ}
 use mathlib.Core.Bool.{Bool}
 use mathlib.Core.List.{List, [], _∷_, map}
-use lib.ListN.{getD, set, drop, replicate}
+use lib.ListN.{getD, set, drop, length, replicate}
 use Rattle.masks.specs.Pick.{pick}
 use Rattle.contents.specs.declared.Contents.{Contents}
 use Rattle.contents.specs.Bytes.{Head, noHead, headOf, blank, noContents, dataAt, withIdent, withLength, withData, storeFrame, frameOf, fillRoom}
@@ -73,7 +73,7 @@ moveAll e (m ∷ ms) rows = moveAll e ms (move e m rows)
 abbrev pub answerOf : Step → List Contents → Reply → Answer
 answerOf e rows (say a) = a
 answerOf e rows (show n j) = Value (pick (readsData e) (dataAt (rowAt rows n) j) 0)
-answerOf e rows (send n) = Sent (2 + min 12 (headOf (rowAt rows n) .len))
+answerOf e rows (send n) = Sent (length (frameOf (rowAt rows n)))
 
 abbrev pub sentOf : List Contents → Reply → List ℕ
 sentOf rows (say a) = []

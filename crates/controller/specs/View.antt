@@ -97,7 +97,7 @@ seen-shown false x = refl
 headAnswer : List Head → Reply → Answer
 headAnswer hs (say a) = a
 headAnswer hs (show n j) = Value 0
-headAnswer hs (send n) = Sent (2 + min 12 (headAt hs n .len))
+headAnswer hs (send n) = Sent (length (headFrame (headAt hs n)))
 
 headSent : List Head → Reply → List ℕ
 headSent hs (say a) = []

@@ -1,2 +1,4 @@
 pub mod Sound
 pub mod Kept
+pub mod Accepted
+pub mod Keeps

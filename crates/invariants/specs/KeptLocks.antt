@@ -1,0 +1,243 @@
+-- The locks stay sound: each rule leaves them, or takes or releases one, and the kind of a locked buffer stays.
+use mathlib.Core.Path.{_≡_, refl, sym, ap, _∙_, subst}
+use Prim.Native.Nat.{ℕ, _<_, _≤_}
+use mathlib.Core.Bool.{Bool, true, false, _&&_, _||_, not}
+use mathlib.Core.List.{List}
+use native.Mathlib.Omega.{arith}
+use borrow.Author.Tests.{eqb-true, eqb-false, ltb-true, ltb-false, leb-true, eq-eqb, le-ltb, le-leb}
+use lib.Dec.{eqb, ltb, leb}
+use Rattle.masks.specs.Pick.{pick-keeps, by-test}
+use Rattle.masks.specs.Bits.{someOf}
+use Rattle.masks.specs.Laws.{put-same, put-other}
+use Rattle.masks.specs.Search.{some-false}
+use Rattle.locks.specs.declared.Locks.{Locks}
+use Rattle.locks.specs.Pair.{none, noLocks, hasHolder, inPair, takeLock, releaseLock}
+use Rattle.contents.specs.Bytes.{Head}
+use Rattle.controller.specs.declared.Control.{Control}
+use Rattle.controller.specs.Record.{withConfig, withFsiz}
+use Rattle.controller.specs.Registers.{has, LOCK, resetControl}
+use Rattle.controller.specs.Kinds.{isTransmit, isReceive, isLocked}
+use Rattle.controller.specs.Modes.{enter, leave, wake}
+use Rattle.controller.specs.Writes.{cfgAfter, lock, unlock, writeCfg, writeLock, writeBufctl}
+use Rattle.controller.specs.Bus.{woken, synced, timedOut, raiseLast}
+use Rattle.controller.specs.Refusals.{movedByFsiz, movedByCfg}
+use Rattle.controller.specs.View.{View}
+use Rattle.invariants.specs.Sound.{PairSound, LocksSound, Sound}
+use Rattle.invariants.specs.Kept.{Kept, at, resetView}
+use Rattle.invariants.specs.KeptLaws1.{and-left, and-right, and-both, or-left, or-right, or-by-left, or-by-right, and-rest, beq-same, Blind, bits-keep, fault-keeps, error-keeps}
+
+-- ---- a pair of locks
+
+-- a holder alone, or none
+alone-sound : (kind : ℕ → Bool) (m : ℕ) → m ≤ 16 → (m < 16 → kind m ≡ true) → PairSound kind (record { holder = m; contender = none })
+alone-sound kind m b k =
+    record {
+      holder-le = b;
+      contender-le = omega arith;
+      holder-kind = k;
+      contender-kind = λ h. absurd (omega arith);
+      contender-held = λ h. absurd (omega arith);
+      apart = λ h e. omega arith;
+    }
+
+module _ (kind : ℕ → Bool) (l : Locks) (n : ℕ) (s : PairSound kind l) where
+  -- a buffer of the kind that isn't locked may become holder or contender
+  take-sound : n < 16 → kind n ≡ true → inPair l n ≡ false → PairSound kind (takeLock l n)
+  unfolding takeLock inPair
+  take-sound h k free = pick-keeps (PairSound kind) (hasHolder l)
+      (λ t. record {
+        holder-le = s .holder-le;
+        contender-le = omega arith;
+        holder-kind = s .holder-kind;
+        contender-kind = λ b. k;
+        contender-held = λ b. ltb-true (l .holder) 16 t;
+        apart = λ b e. eqb-false n (l .holder) (or-left (eqb n (l .holder)) (eqb n (l .contender)) free) (sym e);
+      })
+      (λ t. record {
+        holder-le = omega arith;
+        contender-le = s .contender-le;
+        holder-kind = λ b. k;
+        contender-kind = s .contender-kind;
+        contender-held = λ b. h;
+        apart = λ b e. let alone = ltb-false (l .holder) 16 t in omega (arith, s .contender-held b);
+      })
+
+  -- a released holder's contender becomes holder
+  release-sound : PairSound kind (releaseLock l n)
+  unfolding releaseLock
+  release-sound = pick-keeps (PairSound kind) (eqb n (l .holder))
+      (λ t. alone-sound kind (l .contender) (s .contender-le) (s .contender-kind))
+      (λ t. pick-keeps (PairSound kind) (eqb n (l .contender))
+      (λ u. alone-sound kind (l .holder) (s .holder-le) (s .holder-kind))
+      (λ u. s))
+
+-- a pair is as sound by any other kind that its locked buffers have
+kinds-stay : (kind after : ℕ → Bool) (l : Locks) → ((m : ℕ) → m < 16 → inPair l m ≡ true → kind m ≡ true → after m ≡ true) →
+    PairSound kind l → PairSound after l
+unfolding inPair
+kinds-stay kind after l stay s =
+    record {
+      holder-le = s .holder-le;
+      contender-le = s .contender-le;
+      holder-kind = λ h.
+          stay (l .holder) h (or-by-left (eqb (l .holder) (l .holder)) _ (eq-eqb (l .holder) (l .holder) refl)) (s .holder-kind h);
+      contender-kind = λ h.
+          stay (l .contender) h (or-by-right (eqb (l .contender) (l .holder)) _ (eq-eqb (l .contender) (l .contender) refl))
+          (s .contender-kind h);
+      contender-held = s .contender-held;
+      apart = s .apart;
+    }
+
+-- ---- both pairs
+
+module _ (c : Control) where
+  receive-locked : (m : ℕ) → inPair (c .receive) m ≡ true → isLocked c m ≡ true
+  unfolding isLocked
+  receive-locked m e = or-by-left (inPair (c .receive) m || inPair (c .transmit) m) _ (or-by-left (inPair (c .receive) m) _ e)
+
+  transmit-locked : (m : ℕ) → inPair (c .transmit) m ≡ true → isLocked c m ≡ true
+  unfolding isLocked
+  transmit-locked m e = or-by-left (inPair (c .receive) m || inPair (c .transmit) m) _ (or-by-right (inPair (c .receive) m) _ e)
+
+  receive-free : (m : ℕ) → isLocked c m ≡ false → inPair (c .receive) m ≡ false
+  unfolding isLocked
+  receive-free m e = or-left (inPair (c .receive) m) _ (or-left (inPair (c .receive) m || inPair (c .transmit) m) _ e)
+
+  transmit-free : (m : ℕ) → isLocked c m ≡ false → inPair (c .transmit) m ≡ false
+  unfolding isLocked
+  transmit-free m e = or-right (inPair (c .receive) m) _ (or-left (inPair (c .receive) m || inPair (c .transmit) m) _ e)
+
+-- the pairs alone make a view's locks sound, whatever its other parts
+locks-by : {c : Control} {hs : List Head} → PairSound (isReceive c) (c .receive) → PairSound (isTransmit c) (c .transmit) →
+    LocksSound (record { control = c; heads = hs })
+locks-by r t = record { receive = r; transmit = t }
+
+-- ---- FSIZ
+
+-- a locked receive buffer isn't moved into the FIFO
+receive-stays : (c : Control) (size m : ℕ) → movedByFsiz c size m ≡ false → isLocked c m ≡ true → isReceive c m ≡ true →
+    isReceive (withConfig c (withFsiz (c .config) size)) m ≡ true
+unfolding movedByFsiz
+receive-stays c size m unmoved k e =
+    let plain = and-left (not (isTransmit c m)) _ e in
+    let above = leb-true (c .config .fsiz) m (and-right (not (isTransmit c m)) _ e) in
+    let place =
+    beq-same (ltb m size) (ltb m (c .config .fsiz))
+    (and-rest (isLocked c m && not (isTransmit c m)) _ unmoved (and-both (isLocked c m) _ k plain)) in
+    and-both (not (isTransmit c m)) _ plain (le-leb size m (ltb-false m size (place ∙ le-ltb m (c .config .fsiz) above)))
+
+resize-keeps : (w : View) (size : ℕ) → someOf (movedByFsiz (w .control) size) 16 ≡ false → LocksSound w →
+    LocksSound (at w (withConfig (w .control) (withFsiz (w .control .config) size)))
+resize-keeps w size still s =
+    let c = w .control in
+    locks-by
+    (kinds-stay (isReceive c) _ (c .receive)
+    (λ m h i. receive-stays c size m (some-false (movedByFsiz c size) 16 still m h) (receive-locked c m i)) (s .receive))
+    (s .transmit)
+
+-- ---- a control write
+
+-- CFG of a locked buffer stays
+cfg-stays : (c : Control) (n v : ℕ) → movedByCfg c n v ≡ false → (m : ℕ) → m < 16 → isLocked c m ≡ true →
+    isTransmit (writeCfg c n v) m ≡ isTransmit c m
+unfolding movedByCfg writeCfg
+cfg-stays c n v unmoved m h k = by-test (eqb m n)
+    (λ t.
+    let e = eqb-true m n t in
+    let locked = subst (λ (i : ℕ). isLocked c i ≡ true) e k in
+    ap (isTransmit (writeCfg c n v)) e
+    ∙ put-same (c .buffers .cfg) n (cfgAfter c n v) (subst (λ (i : ℕ). i < 16) e h)
+    ∙ beq-same (cfgAfter c n v) (isTransmit c n) (and-rest (isLocked c n) _ unmoved locked)
+    ∙ ap (isTransmit c) (sym e))
+    (λ t. put-other (c .buffers .cfg) n (cfgAfter c n v) m t h)
+
+module _ (w : View) where
+  -- the locks of w with another control state
+  abbrev Holds : Control → Type 0
+  Holds c = LocksSound (at w c)
+
+  cfg-keeps : (c : Control) (n v : ℕ) → movedByCfg c n v ≡ false → Holds c → Holds (writeCfg c n v)
+  unfolding writeCfg
+  cfg-keeps c n v unmoved s =
+      let stays = cfg-stays c n v unmoved in
+      locks-by
+      (kinds-stay (isReceive c) _ (c .receive)
+      (λ m h i e. ap (λ (t : Bool). not t && leb (c .config .fsiz) m) (stays m h (receive-locked c m i)) ∙ e) (s .receive))
+      (kinds-stay (isTransmit c) _ (c .transmit) (λ m h i e. stays m h (transmit-locked c m i) ∙ e) (s .transmit))
+
+  blind : Blind Holds
+  blind c m x e f a r s = locks-by (s .receive) (s .transmit)
+
+  enter-keeps : (c : Control) → Holds c → Holds (enter c)
+  unfolding enter
+  enter-keeps c s = locks-by (s .receive) (s .transmit)
+
+  lock-keeps : (c : Control) (n : ℕ) → n < 16 → isLocked c n ≡ false → Holds c → Holds (lock c n)
+  unfolding lock
+  lock-keeps c n h free s = pick-keeps Holds (isTransmit c n)
+      (λ t. error-keeps Holds (c .transmit) _ (enter-keeps _)
+      (locks-by (s .receive) (take-sound (isTransmit c) (c .transmit) n (s .transmit) h t (transmit-free c n free))))
+      (λ t. pick-keeps Holds (isReceive c n)
+      (λ r. error-keeps Holds (c .receive) _ (enter-keeps _)
+      (locks-by (take-sound (isReceive c) (c .receive) n (s .receive) h r (receive-free c n free)) (s .transmit)))
+      (λ r. locks-by (s .receive) (s .transmit)))
+
+  unlock-keeps : (c : Control) (n : ℕ) → Holds c → Holds (unlock c n)
+  unfolding unlock
+  unlock-keeps c n s =
+      locks-by (release-sound (isReceive c) (c .receive) n (s .receive)) (release-sound (isTransmit c) (c .transmit) n (s .transmit))
+
+  write-keeps : (c : Control) (n v : ℕ) → n < 16 → Holds c → Holds (writeLock c n v)
+  unfolding writeLock
+  write-keeps c n v h s = pick-keeps Holds (has v LOCK)
+      (λ t. pick-keeps Holds (isLocked c n) (λ k. s) (λ k. lock-keeps c n h k s))
+      (λ t. unlock-keeps c n s)
+
+  control-keeps : (c : Control) (n v : ℕ) → n < 16 → movedByCfg c n v ≡ false → Holds c → Holds (writeBufctl c n v)
+  unfolding writeBufctl
+  control-keeps c n v h unmoved s =
+      write-keeps _ n v h (bits-keep Holds blind (writeCfg c n v) n v (cfg-keeps c n v unmoved s))
+
+-- ---- every rule
+
+pub locks-kept : (w : View) → Sound w → Kept LocksSound w
+unfolding leave wake woken synced timedOut raiseLast
+locks-kept w s =
+    let c = w .control in
+    let r = s .locks .receive in
+    let t = s .locks .transmit in
+    record {
+      stays = λ v i. locks-by r t;
+      leaves = λ v i e. locks-by r t;
+      enters = λ v i. enter-keeps w _ (locks-by r t);
+      goes-on = λ v i. locks-by r t;
+      sleeps = λ v i. locks-by r t;
+      wakes-up = λ v i e. locks-by r t;
+      resizes = λ size i b still. resize-keeps w size still (s .locks);
+      configures = λ g e.
+          locks-by (subst (λ (size : ℕ). PairSound (λ n. not (isTransmit c n) && leb size n) (c .receive)) (sym e) r) t;
+      clears-risr = λ v. locks-by r t;
+      clears-gisr = λ v. locks-by r t;
+      sends-ident = λ v h. locks-by r t;
+      sends-length = λ l b h. locks-by r t;
+      takes-ident = λ v i h. locks-by r t;
+      takes-length = λ l b i h. locks-by r t;
+      controls = λ n v h unmoved o f. control-keeps w c n v h unmoved (s .locks);
+      wakes-by-bus = λ i e. locks-by r t;
+      syncs = λ k i e. locks-by r t;
+      times-out = locks-by r t;
+      faults = λ k i. fault-keeps (Holds w) (blind w) k c (s .locks);
+      bad-frame = λ i. locks-by r t;
+      passes = λ i e. locks-by r t;
+      overruns = λ i e. locks-by r t;
+      stores = λ i l e f h k. locks-by r t;
+      queues = λ i l e f z m h. locks-by r t;
+      sends = λ i n e f h k. locks-by r t;
+    }
+
+pub locks-reset : LocksSound resetView
+unfolding resetControl
+locks-reset = locks-by (empty _) (empty _)
+  where
+    empty : (kind : ℕ → Bool) → PairSound kind noLocks
+    empty kind = alone-sound kind none (omega arith) (λ h. absurd (omega arith))
