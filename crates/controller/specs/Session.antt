@@ -1,15 +1,18 @@
 -- A session: a list of steps from a record, each given the record that the last one returned, and a report for each. It
--- is stated for any rules; Rules.antt has document 01's.
+-- is stated for any rules, and then for document 01's.
 use Prim.Native.Nat.{ℕ}
 use mathlib.Core.Bool.{Bool}
 use mathlib.Core.List.{List, [], _∷_}
 use Rattle.masks.specs.Pick.{pick}
 use Rattle.contents.specs.Payload.{zeros, hideData, seenPart}
-use Rattle.controller.specs.declared.Control.{Control}
+use Rattle.rules.specs.declared.Control.{Control}
 use Rattle.controller.specs.declared.Controller.{Controller}
-use Rattle.controller.specs.Steps.{Step, readsData, hide}
-use Rattle.controller.specs.Plan.{Rules, Outcome, carry, heads}
-use Rattle.controller.specs.Answers.{Word, wordOf, Detail, dash, value, buffer, bytes, kind, number, detailOf}
+use Rattle.rules.specs.Steps.{Step, readsData, hide}
+use Rattle.rules.specs.Plan.{Rules}
+use Rattle.rules.specs.Flags.{linesOf}
+use Rattle.rules.specs.Rules.{decide}
+use Rattle.controller.specs.Carry.{Outcome, carry, heads}
+use Rattle.rules.specs.Answers.{Word, wordOf, Detail, dash, value, buffer, bytes, kind, number, detailOf}
 
 -- What a step reports: the replay text's answer and detail, the content of the lent room, and the five lines after the
 -- step. A count that a later request reports is one more field here.
@@ -43,6 +46,19 @@ unfoldable pub endBy : Rules → Controller → List Step → Controller
 endBy decide c [] = c
 endBy decide c (e ∷ es) = endBy decide (stepBy decide c e .next) es
 
+-- ---- document 01's rules
+
+-- one step of a controller
+unfoldable pub stepOf : Controller → Step → Outcome
+stepOf = stepBy decide
+
+-- a session's reports, from the record c on, and the record after it
+unfoldable pub runOf : Controller → List Step → List Report
+runOf = runBy decide linesOf
+
+unfoldable pub endOf : Controller → List Step → Controller
+endOf = endBy decide
+
 -- ---- what alike sessions agree on: "except a value read from a data register and a sent frame's bytes from byte 2 on"
 
 -- the detail with those put to 0; the test says that a data register was read
@@ -54,7 +70,7 @@ seenDetail d (bytes f) = bytes (hideData f)
 seenDetail d (kind k) = kind k
 seenDetail d (number r) = number r
 
--- the room with its free content and the sent data bytes put to 0
+-- the room with all but a sent frame's identifier and length put to 0
 abbrev pub seenRoom : Detail → List ℕ → List ℕ
 seenRoom dash room = zeros room
 seenRoom (value v) room = zeros room

@@ -1,117 +1,23 @@
 -- What changes nothing, from any state: a read, and a step that is answered "refused" or "ignored".
-use mathlib.Core.Path.{_≡_, refl, sym, ap, _∙_}
+use mathlib.Core.Path.{_≡_, refl}
 use Prim.Native.Nat.{ℕ}
-use mathlib.Core.Bool.{Bool, true, false, _&&_, _||_, not, false≢true}
+use mathlib.Core.Bool.{Bool, true, false, false≢true}
 use mathlib.Core.List.{List, []}
-use lib.ListN.{getD}
-use lib.Dec.{eqb, ltb, leb}
+use lib.Dec.{eqb}
 use Rattle.masks.specs.Pick.{pick, pick-keeps}
-use Rattle.masks.specs.Bits.{highest}
-use Rattle.contents.specs.declared.Contents.{Contents}
-use Rattle.contents.specs.Bytes.{Head, fillRoom}
-use Rattle.controller.specs.declared.Answer.{Answer}
-use Rattle.controller.specs.declared.Answer.the-variants.{Ok, Value, Stored, Queued, HeldOff, HeldBack, Sent, Pulse, Refused, Overrun, Unmatched, BadFrame, Ignored, Woke, NotSent}
-use Rattle.controller.specs.declared.Control.{Control}
+use Rattle.contents.specs.Bytes.{fillRoom}
+use Rattle.rules.specs.declared.Control.{Control}
+use Rattle.rules.specs.Refusals.{refusal}
+use Rattle.rules.specs.Steps.{Step, read, roomIn, hide}
+use Rattle.rules.specs.Plan.{Move, Reply, say, show, send, Plan}
+use Rattle.rules.specs.Rules.{act, decide}
+use Rattle.rules.specs.Unchanged.{changesNothing, stillReply, decide-still}
 use Rattle.controller.specs.declared.Controller.{Controller}
-use Rattle.controller.specs.Kinds.{isLocked}
-use Rattle.controller.specs.Bus.{syncDuePlan, lookup, toBuffer, fifoTakes, toFifo, raiseLast, found, received, offers, sendFrom, slotted}
-use Rattle.controller.specs.Refusals.{refusal}
-use Rattle.controller.specs.Steps.{Step, reset, read, write, sync, syncDue, slot, frame, fault, timeout, roomIn, hide}
-use Rattle.controller.specs.Plan.{Move, Reply, say, show, send, Plan, plain, moveAll, answerOf, carry, heads}
-use Rattle.controller.specs.Rules.{onBus, act, decide, stepOf}
-
--- the answers "refused" and "ignored"
-abbrev pub changesNothing : Answer → Bool
-changesNothing Ok = false
-changesNothing (Value v) = false
-changesNothing (Stored n) = false
-changesNothing (Queued n) = false
-changesNothing (HeldOff n) = false
-changesNothing (HeldBack n) = false
-changesNothing (Sent k) = false
-changesNothing (Pulse k) = false
-changesNothing (Refused r) = true
-changesNothing Overrun = false
-changesNothing Unmatched = false
-changesNothing BadFrame = false
-changesNothing Ignored = true
-changesNothing Woke = false
-changesNothing NotSent = false
-
-abbrev stillReply : Reply → Bool
-stillReply (say a) = changesNothing a
-stillReply (show n j) = false
-stillReply (send n) = false
-
--- a plan that changes nothing if it is answered so
-record Still (c : Control) (p : Plan) : Type 0 where
-  same-control : stillReply (p .reply) ≡ true → p .control ≡ c
-  no-moves : stillReply (p .reply) ≡ true → p .moves ≡ []
+use Rattle.controller.specs.Carry.{moveAll, answerOf, carry, heads}
+use Rattle.controller.specs.Session.{stepOf}
 
 impossible : {G : Type 0} → false ≡ true → G
 impossible e = absurd (false≢true e)
-
--- an answer of another kind, and a plan that is no change
-other : {c : Control} (p : Plan) → stillReply (p .reply) ≡ false → Still c p
-other p e = record { same-control = λ t. impossible (sym e ∙ t); no-moves = λ t. impossible (sym e ∙ t) }
-
-same : (c : Control) (a : Answer) → Still c (plain c a)
-same c a = record { same-control = λ t. refl; no-moves = λ t. refl }
-
-module _ (c : Control) where
-  bus-still : (x y : Plan) → Still c x → Still c y → Still c (onBus c x y)
-  unfolding onBus
-  bus-still x y p q = pick-keeps (Still c) (c .mode .init) (λ t. same c Ignored) (λ t. pick-keeps (Still c) (c .mode .slpak) (λ u. p) (λ u. q))
-
-  due-still : (hs : List Head) → Still c (syncDuePlan c hs)
-  unfolding syncDuePlan
-  due-still hs =
-      pick-keeps (Still c) (c .mode .master)
-      (λ t. pick-keeps (Still c) (c .mode .alarm) (λ u. other _ refl) (λ u. other _ refl)) (λ t. same c Ignored)
-
-  buffer-still : (d : Control) (n : ℕ) → Still c (toBuffer d n)
-  unfolding toBuffer
-  buffer-still d n = pick-keeps (Still c) (isLocked d n) (λ t. other _ refl) (λ t. other _ refl)
-
-  fifo-still : (d : Control) (i : ℕ) → Still c (toFifo d i)
-  unfolding toFifo
-  fifo-still d i =
-      pick-keeps (Still c) (fifoTakes d i)
-      (λ t. pick-keeps (Still c) (leb (d .config .fsiz) (d .fifo .count)) (λ u. other _ refl) (λ u. other _ refl)) (λ t. other _ refl)
-
-  frame-still : (hs : List Head) (good : Bool) (i : ℕ) → Still c (received c hs good i)
-  unfolding received found
-  frame-still hs good i =
-      pick-keeps (Still c) (not (c .mode .synced)) (λ t. same c Ignored)
-      (λ t. pick-keeps (Still c) (not good || eqb i 0) (λ u. other _ refl)
-      (λ u. pick-keeps (Still c) (ltb (lookup c hs i) 16) (λ x. buffer-still (raiseLast c i) (lookup c hs i)) (λ x. fifo-still (raiseLast c i) i)))
-
-  slot-still : (hs : List Head) (i : ℕ) → Still c (slotted c hs i)
-  unfolding slotted sendFrom
-  slot-still hs i =
-      let n = highest (offers c hs i) 16 in
-      pick-keeps (Still c) (not (c .mode .synced)) (λ t. same c Ignored)
-      (λ t. pick-keeps (Still c) (ltb (c .mode .last) i && ltb n 16)
-      (λ u. pick-keeps (Still c) (isLocked c n) (λ x. other _ refl) (λ x. other _ refl)) (λ u. other _ refl))
-
-  act-still : (hs : List Head) (e : Step) → Still c (act c hs e)
-  unfolding act
-  act-still hs reset = other _ refl
-  act-still hs (read a) = record { same-control = λ t. refl; no-moves = λ t. refl }
-  act-still hs (write a v) = other _ refl
-  act-still hs (sync k) = bus-still _ _ (other _ refl) (other _ refl)
-  act-still hs syncDue = bus-still _ _ (same c Ignored) (due-still hs)
-  act-still hs (slot i room) = bus-still _ _ (same c Ignored) (slot-still hs i)
-  act-still hs (frame good f) = bus-still _ _ (other _ refl) (frame-still hs good (getD f 0 0))
-  act-still hs (fault k) = bus-still _ _ (other _ refl) (other _ refl)
-  act-still hs timeout = bus-still _ _ (same c Ignored) (other _ refl)
-
-  decide-still : (hs : List Head) (e : Step) → Still c (decide c hs e)
-  unfolding decide
-  decide-still hs e =
-      pick-keeps (Still c) (eqb (refusal c e) 0) (λ t. act-still hs e) (λ t. same c (Refused (refusal c e)))
-
--- ---- the theorems
 
 -- the step leaves the record and the lent room as they are
 pub record Unchanged (c : Controller) (e : Step) : Type 0 where

@@ -9,13 +9,15 @@ use Rattle.masks.specs.Pick.{pick}
 use Rattle.contents.specs.declared.Contents.{Contents}
 use Rattle.contents.specs.Bytes.{Head, noHead, headOf, noContents, dataAt, withIdent, withLength, withData, cut, storeFrame, frameOf, fillRoom}
 use Rattle.contents.specs.Payload.{zeros, hideData, zeros-zeros, hide-ident, hide-length, head-ident, head-length, head-data, head-store, headFrame, frame-head, head-hide, seenPart, room-head}
-use Rattle.controller.specs.declared.Control.{Control}
+use Rattle.rules.specs.declared.Control.{Control}
+use Rattle.rules.specs.Hidden.{frame-hide, room-hide, reads-hide}
 use Rattle.controller.specs.declared.Controller.{Controller}
-use Rattle.controller.specs.declared.Answer.{Answer}
-use Rattle.controller.specs.declared.Answer.the-variants.{Ok, Value, Stored, Queued, HeldOff, HeldBack, Sent, Pulse, Refused, Overrun, Unmatched, BadFrame, Ignored, Woke, NotSent}
-use Rattle.controller.specs.Steps.{Step, reset, read, write, sync, syncDue, slot, frame, fault, timeout, readsData, valueIn, frameIn, roomIn, hide}
-use Rattle.controller.specs.Plan.{heads, headAt, rowAt, Move, wipe, setIdent, setLength, setData, store, Reply, say, show, send, Plan, Rules, move, moveAll, answerOf, sentOf, Outcome, carry}
-use Rattle.controller.specs.Answers.{Word, wordOf, Detail, dash, value, buffer, bytes, kind, number, detailOf}
+use Rattle.rules.specs.declared.Answer.{Answer}
+use Rattle.rules.specs.declared.Answer.the-variants.{Ok, Value, Stored, Queued, HeldOff, HeldBack, Sent, Pulse, Refused, Overrun, Unmatched, BadFrame, Ignored, Woke, NotSent}
+use Rattle.rules.specs.Steps.{Step, readsData, frameIn, roomIn, hide}
+use Rattle.rules.specs.Plan.{headAt, Move, wipe, setIdent, setLength, setData, store, Reply, say, show, send, Plan, Rules}
+use Rattle.controller.specs.Carry.{heads, rowAt, move, moveAll, answerOf, sentOf, Outcome, carry}
+use Rattle.rules.specs.Answers.{Word, wordOf, Detail, dash, value, buffer, bytes, kind, number, detailOf}
 use Rattle.controller.specs.Session.{Report, reportOf, stepBy, runBy, seenDetail, seenRoom, seen, seenAll}
 
 -- ---- the heads after a move
@@ -27,39 +29,6 @@ heads-set (r ∷ rows) (suc n) b = ap (λ (t : List Head). headOf r ∷ t) (head
 
 pub head-at : (rows : List Contents) (n : ℕ) → headAt (heads rows) n ≡ headOf (rowAt rows n)
 head-at rows n = List·getD-map headOf rows n noContents
-
-frame-hide : (e : Step) → frameIn (hide e) ≡ hideData (frameIn e)
-frame-hide reset = refl
-frame-hide (read a) = refl
-frame-hide (write a v) = refl
-frame-hide (sync k) = refl
-frame-hide syncDue = refl
-frame-hide (slot i room) = refl
-frame-hide (frame good f) = refl
-frame-hide (fault k) = refl
-frame-hide timeout = refl
-
-room-hide : (e : Step) → roomIn (hide e) ≡ zeros (roomIn e)
-room-hide reset = refl
-room-hide (read a) = refl
-room-hide (write a v) = refl
-room-hide (sync k) = refl
-room-hide syncDue = refl
-room-hide (slot i room) = refl
-room-hide (frame good f) = refl
-room-hide (fault k) = refl
-room-hide timeout = refl
-
-reads-hide : (e : Step) → readsData (hide e) ≡ readsData e
-reads-hide reset = refl
-reads-hide (read a) = refl
-reads-hide (write a v) = refl
-reads-hide (sync k) = refl
-reads-hide syncDue = refl
-reads-hide (slot i room) = refl
-reads-hide (frame good f) = refl
-reads-hide (fault k) = refl
-reads-hide timeout = refl
 
 -- a move as it shows in the heads, from the hidden step's frame
 unfoldable pub headMove : List ℕ → Move → List Head → List Head

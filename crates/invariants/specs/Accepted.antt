@@ -10,11 +10,11 @@ use Rattle.masks.specs.Pick.{pick}
 use Rattle.masks.specs.Bits.{someOf}
 use Rattle.masks.specs.Search.{some-false}
 use Rattle.locks.specs.Pair.{hasHolder}
-use Rattle.controller.specs.declared.Register.{Register}
-use Rattle.controller.specs.declared.Register.the-variants.{Mcr, Fsizr, Tcr1, Tcr2, Tcr3, Risr, Gisr, Rier, Gier, Rivec, Tivec, Fidac, Fidmr, Mvr, Pctlbf, Buflock, Fidrj, Fidrmr, TransmitWindow, ReceiveWindow, FifoWindow, Bufctl, Reserved}
-use Rattle.controller.specs.declared.Control.{Control}
-use Rattle.controller.specs.Registers.{lowMap, registerAt}
-use Rattle.controller.specs.Refusals.{refuses1, refuses2, refuses3, refuses4, refuses5, refuses6, refuses7, refuses8, refuses9, refuses10, firstOf, writeRefusal}
+use Rattle.rules.specs.declared.Register.{Register}
+use Rattle.rules.specs.declared.Register.the-variants.{Mcr, Fsizr, Tcr1, Tcr2, Tcr3, Risr, Gisr, Rier, Gier, Rivec, Tivec, Fidac, Fidmr, Mvr, Pctlbf, Buflock, Fidrj, Fidrmr, TransmitWindow, ReceiveWindow, FifoWindow, Bufctl, Reserved}
+use Rattle.rules.specs.declared.Control.{Control}
+use Rattle.rules.specs.Registers.{lowMap, registerAt}
+use Rattle.rules.specs.Refusals.{refuses1, refuses2, refuses3, refuses4, refuses5, refuses6, refuses7, refuses8, refuses9, refuses10, firstOf, writeRefusal}
 
 pub record Accepted (c : Control) (a v : ℕ) : Type 0 where
   pub not1 : refuses1 a ≡ false

@@ -13,22 +13,22 @@ use Rattle.masks.specs.Pick.{pick, pick-true, pick-false, pick-keeps, by-test}
 use Rattle.masks.specs.Bits.{someOf, highest}
 use Rattle.locks.specs.Pair.{hasHolder}
 use Rattle.contents.specs.Bytes.{Head, noHead, cut}
-use Rattle.controller.specs.declared.SyncKind.{SyncKind}
-use Rattle.controller.specs.declared.SyncKind.the-variants.{Normal, Alarm}
-use Rattle.controller.specs.declared.Fault.{Fault}
-use Rattle.controller.specs.declared.Register.{Register}
-use Rattle.controller.specs.declared.Register.the-variants.{Mcr, Fsizr, Tcr1, Tcr2, Tcr3, Risr, Gisr, Rier, Gier, Rivec, Tivec, Fidac, Fidmr, Mvr, Pctlbf, Buflock, Fidrj, Fidrmr, TransmitWindow, ReceiveWindow, FifoWindow, Bufctl, Reserved}
-use Rattle.controller.specs.declared.Control.{Control}
-use Rattle.controller.specs.Record.{withMode, withConfig, withEvents, withFsiz}
-use Rattle.controller.specs.Registers.{has, between, registerAt, INITRQ, SLPRQ}
-use Rattle.controller.specs.Kinds.{isLocked, isLawful}
-use Rattle.controller.specs.Modes.{enter, leave, wake, writeSleep, modeBy, writeMcr}
-use Rattle.controller.specs.Writes.{writeBufctl, written, windowMoves, writeMoves}
-use Rattle.controller.specs.Bus.{woken, synced, syncDuePlan, timedOut, faulted, lookup, toBuffer, fifoTakes, toFifo, raiseLast, found, received, offers, sendFrom, slotted}
-use Rattle.controller.specs.Refusals.{refuses1, refuses3, onlyInInit, refuses4, refuses5, refuses6, refuses7, refuses8, refuses9, refuses10, movedByFsiz, movedByCfg, notOldest, noLockLeft, writeRefusal, refusal}
-use Rattle.controller.specs.Steps.{Step, reset, read, write, sync, syncDue, slot, frame, fault, timeout, frameIn}
-use Rattle.controller.specs.Plan.{headAt, Move, setIdent, setLength, setData, store, Plan, plain}
-use Rattle.controller.specs.Rules.{onBus, act, decide}
+use Rattle.rules.specs.declared.SyncKind.{SyncKind}
+use Rattle.rules.specs.declared.SyncKind.the-variants.{Normal, Alarm}
+use Rattle.rules.specs.declared.Fault.{Fault}
+use Rattle.rules.specs.declared.Register.{Register}
+use Rattle.rules.specs.declared.Register.the-variants.{Mcr, Fsizr, Tcr1, Tcr2, Tcr3, Risr, Gisr, Rier, Gier, Rivec, Tivec, Fidac, Fidmr, Mvr, Pctlbf, Buflock, Fidrj, Fidrmr, TransmitWindow, ReceiveWindow, FifoWindow, Bufctl, Reserved}
+use Rattle.rules.specs.declared.Control.{Control}
+use Rattle.rules.specs.Record.{withMode, withConfig, withEvents, withFsiz}
+use Rattle.rules.specs.Registers.{has, between, registerAt, INITRQ, SLPRQ}
+use Rattle.rules.specs.Kinds.{isLocked, isLawful}
+use Rattle.rules.specs.Modes.{enter, leave, wake, writeSleep, modeBy, writeMcr}
+use Rattle.rules.specs.Writes.{writeBufctl, written, windowMoves, writeMoves}
+use Rattle.rules.specs.Bus.{woken, synced, dueKind, dueSync, timedOut, faulted, lookup, toBuffer, fifoTakes, toFifo, raiseLast, found, received, offers, sendFrom, slotted}
+use Rattle.rules.specs.Refusals.{refuses1, refuses3, onlyInInit, refuses4, refuses5, refuses6, refuses7, refuses8, refuses9, refuses10, movedByFsiz, movedByCfg, notOldest, noLockLeft, writeRefusal, refusal}
+use Rattle.rules.specs.Steps.{Step, reset, read, write, sync, syncDue, slot, frame, fault, timeout, frameIn}
+use Rattle.rules.specs.Plan.{headAt, Move, setIdent, setLength, setData, store, Plan, plain}
+use Rattle.rules.specs.Rules.{onBus, act, decide}
 use Rattle.controller.specs.View.{View, headMove, headMoves, viewNext}
 use Rattle.invariants.specs.Accepted.{Accepted, write-accepted, isAddress, address-of}
 use Rattle.invariants.specs.Kept.{at, rewritten, resetView, Kept}
@@ -236,11 +236,11 @@ module _ (P : View → Type 0) (w : View) (p : P w) (k : Kept P w) where
   bus-kept f x y g h =
       pick-keeps (Good f) (w .control .mode .init) (λ t. p) (λ t. pick-keeps (Good f) (w .control .mode .slpak) (g t) (h t))
 
-  due-kept : w .control .mode .init ≡ false → w .control .mode .slpak ≡ false → Good [] (syncDuePlan (w .control) (w .heads))
-  unfolding syncDuePlan headMoves
+  due-kept : w .control .mode .init ≡ false → w .control .mode .slpak ≡ false → Good [] (dueSync (w .control) (w .heads))
+  unfolding dueSync headMoves
   due-kept i s =
       pick-keeps (Good []) (w .control .mode .master)
-      (λ t. pick-keeps (Good []) (w .control .mode .alarm) (λ u. k .syncs Alarm i s) (λ u. k .syncs Normal i s)) (λ t. p)
+      (λ t. k .syncs (dueKind (w .control)) i s) (λ t. p)
 
   slot-kept : (i : ℕ) → w .control .mode .init ≡ false → Good [] (slotted (w .control) (w .heads) i)
   unfolding slotted sendFrom headMoves

@@ -12,24 +12,24 @@ use Rattle.masks.specs.Pick.{pick, pick-true, pick-false, pick-keeps, by-test}
 use Rattle.masks.specs.Bits.{putBit, someOf, highest}
 use Rattle.locks.specs.Pair.{hasHolder}
 use Rattle.contents.specs.Bytes.{Head, noHead, cut}
-use Rattle.controller.specs.declared.SyncKind.{SyncKind}
-use Rattle.controller.specs.declared.SyncKind.the-variants.{Normal, Alarm}
-use Rattle.controller.specs.declared.Fault.{Fault}
-use Rattle.controller.specs.declared.Register.{Register}
-use Rattle.controller.specs.declared.Register.the-variants.{Mcr, Fsizr, Tcr1, Tcr2, Tcr3, Risr, Gisr, Rier, Gier, Rivec, Tivec, Fidac, Fidmr, Mvr, Pctlbf, Buflock, Fidrj, Fidrmr, TransmitWindow, ReceiveWindow, FifoWindow, Bufctl, Reserved}
-use Rattle.controller.specs.declared.Config.{Config}
-use Rattle.controller.specs.declared.Control.{Control}
-use Rattle.controller.specs.Record.{withMode, withConfig, withEvents, withFifo, withBuffers, withFsiz, withSleep, withLast, withIflg}
-use Rattle.controller.specs.Registers.{has, between, registerAt, resetControl, INITRQ, SLPRQ, OVRNIF, ERRIF}
-use Rattle.controller.specs.Kinds.{isLocked, isLawful}
-use Rattle.controller.specs.Flags.{writeRisr, writeGisr}
-use Rattle.controller.specs.Modes.{enter, leave, wake, writeSleep, writtenMode, modeBy, writeMcr}
-use Rattle.controller.specs.Writes.{writeBufctl, written, windowMoves, writeMoves}
-use Rattle.controller.specs.Bus.{raiseGisr, woken, synced, syncDuePlan, timedOut, faulted, lookup, toBuffer, fifoTakes, withEntry, toFifo, raiseLast, found, received, offers, sentBuffers, sendFrom, slotted}
-use Rattle.controller.specs.Refusals.{refuses1, refuses2, refuses3, onlyInInit, refuses4, refuses5, refuses6, refuses7, refuses8, refuses9, refuses10, refuses11, refuses12, movedByFsiz, movedByCfg, notOldest, noLockLeft, firstOf, readRefusal, writeRefusal, refusal}
-use Rattle.controller.specs.Steps.{Step, reset, read, write, sync, syncDue, slot, frame, fault, timeout, frameIn}
-use Rattle.controller.specs.Plan.{headAt, Move, setIdent, setLength, setData, store, Plan, plain}
-use Rattle.controller.specs.Rules.{onBus, act, decide}
+use Rattle.rules.specs.declared.SyncKind.{SyncKind}
+use Rattle.rules.specs.declared.SyncKind.the-variants.{Normal, Alarm}
+use Rattle.rules.specs.declared.Fault.{Fault}
+use Rattle.rules.specs.declared.Register.{Register}
+use Rattle.rules.specs.declared.Register.the-variants.{Mcr, Fsizr, Tcr1, Tcr2, Tcr3, Risr, Gisr, Rier, Gier, Rivec, Tivec, Fidac, Fidmr, Mvr, Pctlbf, Buflock, Fidrj, Fidrmr, TransmitWindow, ReceiveWindow, FifoWindow, Bufctl, Reserved}
+use Rattle.rules.specs.declared.Config.{Config}
+use Rattle.rules.specs.declared.Control.{Control}
+use Rattle.rules.specs.Record.{withMode, withConfig, withEvents, withFifo, withBuffers, withFsiz, withSleep, withLast, withIflg}
+use Rattle.rules.specs.Registers.{has, between, registerAt, resetControl, INITRQ, SLPRQ, OVRNIF, ERRIF}
+use Rattle.rules.specs.Kinds.{isLocked, isLawful}
+use Rattle.rules.specs.Flags.{writeRisr, writeGisr}
+use Rattle.rules.specs.Modes.{enter, leave, wake, writeSleep, writtenMode, modeBy, writeMcr}
+use Rattle.rules.specs.Writes.{writeBufctl, written, windowMoves, writeMoves}
+use Rattle.rules.specs.Bus.{raiseGisr, woken, synced, dueSync, timedOut, faulted, lookup, toBuffer, fifoTakes, withEntry, toFifo, raiseLast, found, received, offers, sentFrom, sendFrom, slotted}
+use Rattle.rules.specs.Refusals.{refuses1, refuses2, refuses3, onlyInInit, refuses4, refuses5, refuses6, refuses7, refuses8, refuses9, refuses10, refuses11, refuses12, movedByFsiz, movedByCfg, notOldest, noLockLeft, firstOf, readRefusal, writeRefusal, refusal}
+use Rattle.rules.specs.Steps.{Step, reset, read, write, sync, syncDue, slot, frame, fault, timeout, frameIn}
+use Rattle.rules.specs.Plan.{headAt, Move, setIdent, setLength, setData, store, Plan, plain}
+use Rattle.rules.specs.Rules.{onBus, act, decide}
 use Rattle.controller.specs.View.{View, headMove, headMoves, viewNext}
 
 -- the view w with another control state
@@ -100,4 +100,4 @@ pub record Kept (P : View → Type 0) (w : View) : Type 0 where
       P (record { control = withFifo (raiseLast (w .control) i) (withEntry (w .control)); heads = putHead w (w .control .fifo .next) i (cut l) })
   -- a frame sent from buffer n, at its slot i
   pub sends : (i n : ℕ) → w .control .mode .init ≡ false → n ≡ highest (offers (w .control) (w .heads) i) 16 → n < 16 → isLocked (w .control) n ≡ false →
-      P (at w (withMode (sentBuffers (w .control) n) (withLast (w .control .mode) i)))
+      P (at w (withMode (sentFrom (w .control) n) (withLast (w .control .mode) i)))

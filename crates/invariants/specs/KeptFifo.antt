@@ -10,14 +10,14 @@ use lib.Dec.{eqb, ltb, leb}
 use Rattle.masks.specs.Pick.{pick-keeps, by-test}
 use Rattle.masks.specs.Laws.{put-same}
 use Rattle.contents.specs.Bytes.{Head}
-use Rattle.controller.specs.declared.Fifo.{Fifo}
-use Rattle.controller.specs.declared.Control.{Control}
-use Rattle.controller.specs.Registers.{has, LOCK, emptyFifo, resetControl}
-use Rattle.controller.specs.Kinds.{isTransmit, isReceive, isLocked, isOldest}
-use Rattle.controller.specs.Modes.{enter, leave, wake}
-use Rattle.controller.specs.Writes.{cfgAfter, lockFifo, lock, unlock, placeAfter, releaseFifo, writeCfg, writeLock, writeBufctl}
-use Rattle.controller.specs.Bus.{woken, synced, timedOut, raiseLast}
-use Rattle.controller.specs.Refusals.{newLock, notOldest}
+use Rattle.rules.specs.declared.Fifo.{Fifo}
+use Rattle.rules.specs.declared.Control.{Control}
+use Rattle.rules.specs.Registers.{has, LOCK, emptyFifo, resetControl}
+use Rattle.rules.specs.Kinds.{isTransmit, isReceive, isLocked, isOldest, placeAfter}
+use Rattle.rules.specs.Modes.{enter, leave, wake}
+use Rattle.rules.specs.Writes.{cfgAfter, lockFifo, lock, unlock, releaseFifo, writeCfg, writeLock, writeBufctl}
+use Rattle.rules.specs.Bus.{woken, synced, timedOut, raiseLast}
+use Rattle.rules.specs.Refusals.{newLock, notOldest}
 use Rattle.controller.specs.View.{View}
 use Rattle.invariants.specs.Sound.{FifoSound, Sound}
 use Rattle.invariants.specs.Kept.{Kept, resetView}

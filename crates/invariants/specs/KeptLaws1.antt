@@ -4,16 +4,17 @@ use Prim.Native.Nat.{ℕ}
 use mathlib.Core.Bool.{Bool, true, false, _&&_, _||_, not, Bool·beq, false≢true}
 use Rattle.masks.specs.Pick.{pick-keeps}
 use Rattle.locks.specs.declared.Locks.{Locks}
-use Rattle.controller.specs.declared.Fault.{Fault}
-use Rattle.controller.specs.declared.Fault.the-variants.{Early, Lost, Illegal, Mismatch}
-use Rattle.controller.specs.declared.Mode.{Mode}
-use Rattle.controller.specs.declared.Events.{Events}
-use Rattle.controller.specs.declared.Control.{Control}
-use Rattle.controller.specs.Record.{withMode, withEvents, withBuffers}
-use Rattle.controller.specs.Registers.{has, IFLG, ABTRQ}
-use Rattle.controller.specs.Modes.{enter}
-use Rattle.controller.specs.Writes.{isFullTransmit, entersByLock, lockError, writeIena, writeIflg, writeAbtrq}
-use Rattle.controller.specs.Bus.{faulted}
+use Rattle.rules.specs.declared.Fault.{Fault}
+use Rattle.rules.specs.declared.Fault.the-variants.{Early, Lost, Illegal, Mismatch}
+use Rattle.rules.specs.declared.Mode.{Mode}
+use Rattle.rules.specs.declared.Events.{Events}
+use Rattle.rules.specs.declared.Control.{Control}
+use Rattle.rules.specs.Record.{withMode, withEvents, withBuffers}
+use Rattle.rules.specs.Registers.{has, IFLG, ABTRQ}
+use Rattle.rules.specs.Modes.{enter}
+use Rattle.rules.specs.Writes.{entersByLock, lockError, writeIena, writeIflg, writeAbtrq}
+use Rattle.rules.specs.Kinds.{isFullTransmit}
+use Rattle.rules.specs.Bus.{faulted}
 
 -- ---- tests
 

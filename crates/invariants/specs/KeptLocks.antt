@@ -13,14 +13,14 @@ use Rattle.masks.specs.Search.{some-false}
 use Rattle.locks.specs.declared.Locks.{Locks}
 use Rattle.locks.specs.Pair.{none, noLocks, hasHolder, inPair, takeLock, releaseLock}
 use Rattle.contents.specs.Bytes.{Head}
-use Rattle.controller.specs.declared.Control.{Control}
-use Rattle.controller.specs.Record.{withConfig, withFsiz}
-use Rattle.controller.specs.Registers.{has, LOCK, resetControl}
-use Rattle.controller.specs.Kinds.{isTransmit, isReceive, isLocked}
-use Rattle.controller.specs.Modes.{enter, leave, wake}
-use Rattle.controller.specs.Writes.{cfgAfter, lock, unlock, writeCfg, writeLock, writeBufctl}
-use Rattle.controller.specs.Bus.{woken, synced, timedOut, raiseLast}
-use Rattle.controller.specs.Refusals.{movedByFsiz, movedByCfg}
+use Rattle.rules.specs.declared.Control.{Control}
+use Rattle.rules.specs.Record.{withConfig, withFsiz}
+use Rattle.rules.specs.Registers.{has, LOCK, resetControl}
+use Rattle.rules.specs.Kinds.{isTransmit, isReceive, isLocked}
+use Rattle.rules.specs.Modes.{enter, leave, wake}
+use Rattle.rules.specs.Writes.{cfgAfter, lock, unlock, writeCfg, writeLock, writeBufctl}
+use Rattle.rules.specs.Bus.{woken, synced, timedOut, raiseLast}
+use Rattle.rules.specs.Refusals.{movedByFsiz, movedByCfg}
 use Rattle.controller.specs.View.{View}
 use Rattle.invariants.specs.Sound.{PairSound, LocksSound, Sound}
 use Rattle.invariants.specs.Kept.{Kept, at, resetView}

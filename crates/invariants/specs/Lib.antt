@@ -2,3 +2,10 @@ pub mod Sound
 pub mod Kept
 pub mod Accepted
 pub mod Keeps
+pub mod KeptLaws1
+pub mod KeptLocks
+pub mod KeptFifo
+pub mod KeptLaws2
+pub mod ModeLaws
+pub mod KeptModes
+pub mod KeptBits

@@ -8,11 +8,11 @@ use lib.ListN.{length}
 use lib.Dec.{eqb, ltb, leb}
 use Rattle.locks.specs.declared.Locks.{Locks}
 use Rattle.contents.specs.Bytes.{Head}
-use Rattle.controller.specs.declared.Fifo.{Fifo}
-use Rattle.controller.specs.declared.Control.{Control}
-use Rattle.controller.specs.Registers.{has, SYNLIF, emptyFifo}
-use Rattle.controller.specs.Kinds.{isTransmit, isFifo, isReceive, isLocked, isLawful, hasIflg, hasAbtak, isArmed}
-use Rattle.controller.specs.Plan.{headAt}
+use Rattle.rules.specs.declared.Fifo.{Fifo}
+use Rattle.rules.specs.declared.Control.{Control}
+use Rattle.rules.specs.Registers.{has, SYNLIF, emptyFifo}
+use Rattle.rules.specs.Kinds.{isTransmit, isFifo, isReceive, isLocked, isLawful, hasIflg, hasAbtak, isArmed}
+use Rattle.rules.specs.Plan.{headAt}
 use Rattle.controller.specs.View.{View}
 
 -- the locks of a kind: both of that kind and different, and a contender only with a holder

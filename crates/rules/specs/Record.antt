@@ -3,12 +3,12 @@ use Prim.Native.Nat.{ℕ}
 use mathlib.Core.Bool.{Bool}
 use Rattle.filter.specs.declared.Filter.{Filter}
 use Rattle.locks.specs.declared.Locks.{Locks}
-use Rattle.controller.specs.declared.Mode.{Mode}
-use Rattle.controller.specs.declared.Config.{Config}
-use Rattle.controller.specs.declared.Events.{Events}
-use Rattle.controller.specs.declared.Fifo.{Fifo}
-use Rattle.controller.specs.declared.Buffers.{Buffers}
-use Rattle.controller.specs.declared.Control.{Control}
+use Rattle.rules.specs.declared.Mode.{Mode}
+use Rattle.rules.specs.declared.Config.{Config}
+use Rattle.rules.specs.declared.Events.{Events}
+use Rattle.rules.specs.declared.Fifo.{Fifo}
+use Rattle.rules.specs.declared.Buffers.{Buffers}
+use Rattle.rules.specs.declared.Control.{Control}
 
 -- ---- parts of the control state
 

@@ -1,11 +1,11 @@
 -- Document 01, 'Kinds and locks': kinds of buffers, what is locked, the lawful layout.
-use Prim.Native.Nat.{ℕ}
+use Prim.Native.Nat.{ℕ, _+_, _-_}
 use mathlib.Core.Bool.{Bool, _&&_, _||_, not}
 use lib.Dec.{eqb, ltb, leb}
 use Rattle.masks.specs.Pick.{pick}
 use Rattle.masks.specs.Bits.{bitOf, rising, countOf}
 use Rattle.locks.specs.Pair.{none, inPair, hasContender}
-use Rattle.controller.specs.declared.Control.{Control}
+use Rattle.rules.specs.declared.Control.{Control}
 
 -- "CFG 1 is transmit. CFG 0 is FIFO below FSIZ, else dedicated receive; 'receive buffer' here means a dedicated one."
 abbrev pub isTransmit : Control → ℕ → Bool
@@ -30,6 +30,10 @@ hasAbtak c n = bitOf (c .buffers .abtak) n
 abbrev pub isArmed : Control → ℕ → Bool
 isArmed c n = bitOf (c .buffers .armed) n
 
+-- "A transmit buffer with IFLG 0 is full."
+abbrev pub isFullTransmit : Control → ℕ → Bool
+isFullTransmit c n = isTransmit c n && not (hasIflg c n)
+
 -- holders and contenders, and the FIFO's oldest entry while the FIFO is locked, are locked
 unfoldable pub isLocked : Control → ℕ → Bool
 isLocked c n = inPair (c .receive) n || inPair (c .transmit) n || (c .fifo .locked && eqb n (c .fifo .oldest))
@@ -37,6 +41,10 @@ isLocked c n = inPair (c .receive) n || inPair (c .transmit) n || (c .fifo .lock
 -- "the oldest entry of a non-empty FIFO"
 unfoldable pub isOldest : Control → ℕ → Bool
 isOldest c n = ltb 0 (c .fifo .count) && eqb n (c .fifo .oldest)
+
+-- "the place after the last one used, 0 following FSIZ − 1"
+unfoldable pub placeAfter : ℕ → ℕ → ℕ
+placeAfter fsiz n = pick (ltb n (fsiz - 1)) (n + 1) 0
 
 -- the FIFO window's holder, or none
 unfoldable pub fifoHolder : Control → ℕ

@@ -6,18 +6,15 @@ use lib.ListN.{getD}
 use lib.Dec.{eqb}
 use Rattle.masks.specs.Pick.{pick}
 use Rattle.contents.specs.Bytes.{Head}
-use Rattle.controller.specs.declared.Answer.the-variants.{Ok, Refused, Ignored, Woke}
-use Rattle.controller.specs.declared.Control.{Control}
-use Rattle.controller.specs.declared.Controller.{Controller}
-use Rattle.controller.specs.Registers.{registerAt, resetControl}
-use Rattle.controller.specs.Steps.{Step, reset, read, write, sync, syncDue, slot, frame, fault, timeout}
-use Rattle.controller.specs.Plan.{wipe, say, Plan, plain, Outcome}
-use Rattle.controller.specs.Session.{Report, stepBy, runBy, endBy}
-use Rattle.controller.specs.Flags.{linesOf}
-use Rattle.controller.specs.Reads.{readReply}
-use Rattle.controller.specs.Writes.{written, writeMoves}
-use Rattle.controller.specs.Bus.{woken, synced, syncDuePlan, timedOut, faulted, received, slotted}
-use Rattle.controller.specs.Refusals.{refusal}
+use Rattle.rules.specs.declared.Answer.the-variants.{Ok, Refused, Ignored, Woke}
+use Rattle.rules.specs.declared.Control.{Control}
+use Rattle.rules.specs.Registers.{registerAt, resetControl}
+use Rattle.rules.specs.Steps.{Step, reset, read, write, sync, syncDue, slot, frame, fault, timeout}
+use Rattle.rules.specs.Plan.{wipe, say, Plan, plain}
+use Rattle.rules.specs.Reads.{readReply}
+use Rattle.rules.specs.Writes.{written, writeMoves}
+use Rattle.rules.specs.Bus.{woken, synced, dueSync, timedOut, faulted, received, slotted}
+use Rattle.rules.specs.Refusals.{refusal}
 
 -- A bus step: "In initialization each is 'ignored'"; asleep, the plan given first.
 unfoldable pub onBus : Control → Plan → Plan → Plan
@@ -37,7 +34,7 @@ act c hs reset = record { control = resetControl; moves = wipe ∷ []; reply = s
 act c hs (read a) = record { control = c; moves = []; reply = readReply c hs (registerAt a) }
 act c hs (write a v) = record { control = written c (registerAt a) v; moves = writeMoves c (registerAt a) v; reply = say Ok }
 act c hs (sync k) = wakes c (plain (synced k c hs) Ok)
-act c hs syncDue = sleepsOn c (syncDuePlan c hs)
+act c hs syncDue = sleepsOn c (dueSync c hs)
 act c hs (slot i room) = sleepsOn c (slotted c hs i)
 act c hs (frame good f) = wakes c (received c hs good (getD f 0 0))
 act c hs (fault k) = wakes c (plain (faulted k c) Ok)
@@ -46,14 +43,3 @@ act c hs timeout = sleepsOn c (plain (timedOut c) Ok)
 -- "A refusal returns its number only. State and lent memory stay."
 unfoldable pub decide : Control → List Head → Step → Plan
 decide c hs e = pick (eqb (refusal c e) 0) (act c hs e) (plain c (Refused (refusal c e)))
-
--- one step of a controller
-unfoldable pub stepOf : Controller → Step → Outcome
-stepOf = stepBy decide
-
--- a session's reports, from the record c on, and the record after it
-unfoldable pub runOf : Controller → List Step → List Report
-runOf = runBy decide linesOf
-
-unfoldable pub endOf : Controller → List Step → Controller
-endOf = endBy decide

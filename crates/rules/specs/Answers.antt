@@ -1,9 +1,9 @@
 -- Document 01, 'The replay text': the word and the detail of each answer.
 use Prim.Native.Nat.{ℕ}
 use mathlib.Core.List.{List}
-use Rattle.controller.specs.declared.SyncKind.{SyncKind}
-use Rattle.controller.specs.declared.Answer.{Answer}
-use Rattle.controller.specs.declared.Answer.the-variants.{Ok, Value, Stored, Queued, HeldOff, HeldBack, Sent, Pulse, Refused, Overrun, Unmatched, BadFrame, Ignored, Woke, NotSent}
+use Rattle.rules.specs.declared.SyncKind.{SyncKind}
+use Rattle.rules.specs.declared.Answer.{Answer}
+use Rattle.rules.specs.declared.Answer.the-variants.{Ok, Value, Stored, Queued, HeldOff, HeldBack, Sent, Pulse, Refused, Overrun, Unmatched, BadFrame, Ignored, Woke, NotSent}
 
 pub data Word : Type 0 where
   ok read stored queued heldoff heldback sent pulse refused overrun unmatched badframe ignored woke notsent : Word

@@ -2,18 +2,16 @@
 use Prim.Native.Nat.{ℕ, _-_, _/_, _%_}
 use mathlib.Core.Bool.{Bool, true, false, _&&_}
 use mathlib.Core.List.{List, [], _∷_}
-use lib.ListN.{getD, replicate}
+use lib.ListN.{getD}
 use lib.Dec.{eqb, ltb, leb}
 use lib.Bits.{bitOr}
 use Rattle.masks.specs.Pick.{pick}
 use Rattle.locks.specs.Pair.{noLocks}
-use Rattle.contents.specs.Bytes.{blank}
-use Rattle.controller.specs.declared.Register.{Register}
-use Rattle.controller.specs.declared.Register.the-variants.{Mcr, Fsizr, Tcr1, Tcr2, Tcr3, Risr, Gisr, Rier, Gier, Rivec, Tivec, Fidac, Fidmr, Mvr, Pctlbf, Buflock, Fidrj, Fidrmr, TransmitWindow, ReceiveWindow, FifoWindow, Bufctl, Reserved}
-use Rattle.controller.specs.declared.Fifo.{Fifo}
-use Rattle.controller.specs.declared.Events.{Events}
-use Rattle.controller.specs.declared.Control.{Control}
-use Rattle.controller.specs.declared.Controller.{Controller}
+use Rattle.rules.specs.declared.Register.{Register}
+use Rattle.rules.specs.declared.Register.the-variants.{Mcr, Fsizr, Tcr1, Tcr2, Tcr3, Risr, Gisr, Rier, Gier, Rivec, Tivec, Fidac, Fidmr, Mvr, Pctlbf, Buflock, Fidrj, Fidrmr, TransmitWindow, ReceiveWindow, FifoWindow, Bufctl, Reserved}
+use Rattle.rules.specs.declared.Fifo.{Fifo}
+use Rattle.rules.specs.declared.Events.{Events}
+use Rattle.rules.specs.declared.Control.{Control}
 
 -- ---- bits, each by its weight in the register
 
@@ -156,6 +154,3 @@ resetControl =
       transmit = noLocks;
       buffers = record { cfg = 0; iena = 0; iflg = 0; abtak = 0; armed = 0 };
     }
-
-unfoldable pub resetState : Controller
-resetState = record { control = resetControl; rows = replicate 16 blank }

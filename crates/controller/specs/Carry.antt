@@ -1,61 +1,26 @@
--- Control plane and data plane. The rules see the control state, the buffers' identifiers and lengths, and a step with
--- its payload put to 0; they answer a plan, which is then carried out on the buffers' bytes.
+-- The data plane: a plan carried out on the buffers' bytes.
 use Prim.Native.Nat.{ℕ}
-use mathlib.Core.Bool.{Bool}
 use mathlib.Core.List.{List, [], _∷_, map}
 use lib.ListN.{getD, set, drop, length, replicate}
 use Rattle.masks.specs.Pick.{pick}
 use Rattle.contents.specs.declared.Contents.{Contents}
-use Rattle.contents.specs.Bytes.{Head, noHead, headOf, blank, noContents, dataAt, withIdent, withLength, withData, storeFrame, frameOf, fillRoom}
-use Rattle.controller.specs.declared.Control.{Control}
+use Rattle.contents.specs.Bytes.{Head, headOf, blank, noContents, dataAt, withIdent, withLength, withData, storeFrame, frameOf, fillRoom}
+use Rattle.rules.specs.declared.Answer.{Answer}
+use Rattle.rules.specs.declared.Answer.the-variants.{Value, Sent}
+use Rattle.rules.specs.Steps.{Step, readsData, valueIn, frameIn, roomIn}
+use Rattle.rules.specs.Plan.{Move, wipe, setIdent, setLength, setData, store, Reply, say, show, send, Plan}
+use Rattle.rules.specs.Registers.{resetControl}
 use Rattle.controller.specs.declared.Controller.{Controller}
-use Rattle.controller.specs.declared.Answer.{Answer}
-use Rattle.controller.specs.declared.Answer.the-variants.{Value, Sent}
-use Rattle.controller.specs.Steps.{Step, readsData, valueIn, frameIn, roomIn}
+
+-- "Reset gives zero everywhere, buffers too"
+unfoldable pub resetState : Controller
+resetState = record { control = resetControl; rows = replicate 16 blank }
 
 abbrev pub heads : List Contents → List Head
 heads = map headOf
 
-abbrev pub headAt : List Head → ℕ → Head
-headAt hs n = getD hs n noHead
-
 abbrev pub rowAt : List Contents → ℕ → Contents
 rowAt rows n = getD rows n noContents
-
--- what a plan does to the buffers' bytes
-pub data Move : Type 0 where
-  -- every buffer zero
-  wipe : Move
-  -- identifier, or length, of buffer n becomes v
-  setIdent : ℕ → ℕ → Move
-  setLength : ℕ → ℕ → Move
-  -- data byte j of buffer n becomes the value that the step writes
-  setData : ℕ → ℕ → Move
-  -- the frame that the step brings is stored in buffer n
-  store : ℕ → Move
-
--- what a plan answers
-pub data Reply : Type 0 where
-  say : Answer → Reply
-  -- data byte j of buffer n
-  show : ℕ → ℕ → Reply
-  -- the frame in buffer n
-  send : ℕ → Reply
-
-pub record Plan : Type 0 where
-  pub control : Control
-  pub moves : List Move
-  pub reply : Reply
-
--- only the control state changes
-abbrev pub plain : Control → Answer → Plan
-plain c a = record { control = c; moves = []; reply = say a }
-
--- the rules, whatever they are: payload is not among what they are given
-abbrev pub Rules : Type 0
-Rules = Control → List Head → Step → Plan
-
--- ---- a plan carried out
 
 abbrev pub move : Step → Move → List Contents → List Contents
 move e wipe rows = replicate 16 blank

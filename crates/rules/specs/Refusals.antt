@@ -8,11 +8,11 @@ use Rattle.masks.specs.Pick.{pick}
 use Rattle.masks.specs.Bits.{someOf}
 use Rattle.locks.specs.Pair.{hasHolder, isFull}
 use Rattle.contents.specs.Bytes.{cut}
-use Rattle.controller.specs.declared.Control.{Control}
-use Rattle.controller.specs.Registers.{has, between, INITRQ, CFG, LOCK}
-use Rattle.controller.specs.Kinds.{isTransmit, isLocked, isOldest, isLawful}
-use Rattle.controller.specs.Writes.{cfgAfter}
-use Rattle.controller.specs.Steps.{Step, reset, read, write, sync, syncDue, slot, frame, fault, timeout}
+use Rattle.rules.specs.declared.Control.{Control}
+use Rattle.rules.specs.Registers.{has, between, INITRQ, CFG, LOCK}
+use Rattle.rules.specs.Kinds.{isTransmit, isLocked, isOldest, isLawful}
+use Rattle.rules.specs.Writes.{cfgAfter}
+use Rattle.rules.specs.Steps.{Step, reset, read, write, sync, syncDue, slot, frame, fault, timeout}
 
 -- 1: "address above $5F"
 unfoldable pub refuses1 : ℕ → Bool
@@ -80,7 +80,7 @@ refuses10 c a v = leb 0x50 a && noLockLeft c (a - 0x50) v
 
 -- 11: "frame slice not 2 + min(12, length's low four bits) bytes; any mode"
 unfoldable pub refuses11 : List ℕ → Bool
-refuses11 f = ltb (length f) 2 || not (eqb (length f) (2 + cut (getD f 1 0)))
+refuses11 f = not (eqb (length f) (2 + cut (getD f 1 0)))
 
 -- 12: "room for a sent frame under 14 bytes; any mode"
 unfoldable pub refuses12 : List ℕ → Bool

@@ -1,20 +1,20 @@
 -- What the registers read (document 01, 'Register bits').
 use Prim.Native.Nat.{ℕ, _-_}
-use mathlib.Core.Bool.{Bool}
+use mathlib.Core.Bool.{Bool, _||_}
 use mathlib.Core.List.{List}
 use lib.Dec.{eqb, ltb}
 use Rattle.masks.specs.Pick.{pick}
-use Rattle.locks.specs.Pair.{hasHolder}
+use Rattle.locks.specs.Pair.{hasHolder, hasContender}
 use Rattle.contents.specs.Bytes.{Head}
-use Rattle.controller.specs.declared.Register.{Register}
-use Rattle.controller.specs.declared.Register.the-variants.{Mcr, Fsizr, Tcr1, Tcr2, Tcr3, Risr, Gisr, Rier, Gier, Rivec, Tivec, Fidac, Fidmr, Mvr, Pctlbf, Buflock, Fidrj, Fidrmr, TransmitWindow, ReceiveWindow, FifoWindow, Bufctl, Reserved}
-use Rattle.controller.specs.declared.Answer.the-variants.{Value}
-use Rattle.controller.specs.declared.Mode.{Mode}
-use Rattle.controller.specs.declared.Control.{Control}
-use Rattle.controller.specs.Registers.{withFlag, INITRQ, MASTER, ALARM, SLPAK, SLPRQ, WPULSE, SSWAI, INITAK, BFEN, TXBUFLOCK, RXBUFLOCK, CFG, IENA, IFLG, LOCK, ABTAK}
-use Rattle.controller.specs.Kinds.{isTransmit, hasIena, hasIflg, hasAbtak, isLocked, fifoHolder}
-use Rattle.controller.specs.Flags.{risr, gisr, receiveVector, transmitVector}
-use Rattle.controller.specs.Plan.{headAt, Reply, say, show}
+use Rattle.rules.specs.declared.Register.{Register}
+use Rattle.rules.specs.declared.Register.the-variants.{Mcr, Fsizr, Tcr1, Tcr2, Tcr3, Risr, Gisr, Rier, Gier, Rivec, Tivec, Fidac, Fidmr, Mvr, Pctlbf, Buflock, Fidrj, Fidrmr, TransmitWindow, ReceiveWindow, FifoWindow, Bufctl, Reserved}
+use Rattle.rules.specs.declared.Answer.the-variants.{Value}
+use Rattle.rules.specs.declared.Mode.{Mode}
+use Rattle.rules.specs.declared.Control.{Control}
+use Rattle.rules.specs.Registers.{withFlag, INITRQ, MASTER, ALARM, SLPAK, SLPRQ, WPULSE, SSWAI, INITAK, BFEN, TXBUFLOCK, RXBUFLOCK, CFG, IENA, IFLG, LOCK, ABTAK}
+use Rattle.rules.specs.Kinds.{isTransmit, hasIena, hasIflg, hasAbtak, isLocked, fifoHolder}
+use Rattle.rules.specs.Flags.{risr, gisr, receiveVector, transmitVector}
+use Rattle.rules.specs.Plan.{headAt, Reply, say, show}
 
 unfoldable pub mcr : Mode → ℕ
 mcr m =
@@ -27,9 +27,11 @@ mcr m =
     (withFlag (m .master) MASTER
     (withFlag (m .init) INITRQ 0)))))))
 
--- $12; a contender never stands without its holder
+-- "bit 1 a transmit buffer is locked, bit 0 a dedicated receive buffer is locked"
 unfoldable pub buflock : Control → ℕ
-buflock c = withFlag (hasHolder (c .receive)) RXBUFLOCK (withFlag (hasHolder (c .transmit)) TXBUFLOCK 0)
+buflock c =
+    withFlag (hasHolder (c .receive) || hasContender (c .receive)) RXBUFLOCK
+    (withFlag (hasHolder (c .transmit) || hasContender (c .transmit)) TXBUFLOCK 0)
 
 -- "7 CFG (1 transmit), 6 IENA, 5 IFLG, 4 LOCK, 3 ABTRQ (reads 0), 2 ABTAK"
 unfoldable pub bufctl : Control → ℕ → ℕ

@@ -1,24 +1,24 @@
 -- Register writes that are not refused: a buffer's control register (document 01, 'Kinds and locks') and the others.
-use Prim.Native.Nat.{ℕ, _+_, _-_, _/_, _%_}
+use Prim.Native.Nat.{ℕ, _+_, _-_, _%_}
 use mathlib.Core.Bool.{Bool, true, false, _&&_, not}
 use mathlib.Core.List.{List, [], _∷_}
-use lib.Dec.{eqb, ltb}
+use lib.Dec.{eqb}
 use lib.Bits.{bitAnd, bitOr}
 use Rattle.masks.specs.Pick.{pick}
 use Rattle.masks.specs.Bits.{putBit}
 use Rattle.locks.specs.declared.Locks.{Locks}
 use Rattle.locks.specs.Pair.{hasHolder, takeLock, releaseLock}
-use Rattle.controller.specs.declared.Register.{Register}
-use Rattle.controller.specs.declared.Register.the-variants.{Mcr, Fsizr, Tcr1, Tcr2, Tcr3, Risr, Gisr, Rier, Gier, Rivec, Tivec, Fidac, Fidmr, Mvr, Pctlbf, Buflock, Fidrj, Fidrmr, TransmitWindow, ReceiveWindow, FifoWindow, Bufctl, Reserved}
-use Rattle.controller.specs.declared.Buffers.{Buffers}
-use Rattle.controller.specs.declared.Fifo.{Fifo}
-use Rattle.controller.specs.declared.Control.{Control}
-use Rattle.controller.specs.Record.{withConfig, withEvents, withFifo, withReceive, withTransmit, withBuffers, withFsiz, withTcr1, withTcr2, withTcr3, withRier, withGier, withAccept, withReject, withBfen, withPattern, withMask, withCfg, withIena, withIflg, withAbtak, withArmed}
-use Rattle.controller.specs.Registers.{has, LOCKIE, BFEN, CFG, IENA, IFLG, LOCK, ABTRQ}
-use Rattle.controller.specs.Kinds.{isTransmit, isReceive, hasIflg, isLocked}
-use Rattle.controller.specs.Flags.{writeRisr, writeGisr}
-use Rattle.controller.specs.Modes.{enter, writeMcr}
-use Rattle.controller.specs.Plan.{Move, setIdent, setLength, setData}
+use Rattle.rules.specs.declared.Register.{Register}
+use Rattle.rules.specs.declared.Register.the-variants.{Mcr, Fsizr, Tcr1, Tcr2, Tcr3, Risr, Gisr, Rier, Gier, Rivec, Tivec, Fidac, Fidmr, Mvr, Pctlbf, Buflock, Fidrj, Fidrmr, TransmitWindow, ReceiveWindow, FifoWindow, Bufctl, Reserved}
+use Rattle.rules.specs.declared.Buffers.{Buffers}
+use Rattle.rules.specs.declared.Fifo.{Fifo}
+use Rattle.rules.specs.declared.Control.{Control}
+use Rattle.rules.specs.Record.{withConfig, withEvents, withFifo, withReceive, withTransmit, withBuffers, withFsiz, withTcr1, withTcr2, withTcr3, withRier, withGier, withAccept, withReject, withBfen, withPattern, withMask, withCfg, withIena, withIflg, withAbtak, withArmed}
+use Rattle.rules.specs.Registers.{has, RCVFIF, RXIF, SYNAIF, SYNNIF, SLMMIF, XSYNIF, LOCKIE, BFEN, CFG, IENA, IFLG, LOCK, ABTRQ}
+use Rattle.rules.specs.Kinds.{isTransmit, isReceive, isLocked, isFullTransmit, placeAfter}
+use Rattle.rules.specs.Flags.{writeRisr, writeGisr}
+use Rattle.rules.specs.Modes.{enter, writeMcr}
+use Rattle.rules.specs.Plan.{Move, setIdent, setLength, setData}
 
 -- ---- locks
 
@@ -36,16 +36,12 @@ disarm c n = withBuffers c (withArmed (c .buffers) (putBit (c .buffers .armed) n
 abbrev pub lockFifo : Fifo → Fifo
 lockFifo f = record { oldest = f .oldest; next = f .next; count = f .count; locked = true }
 
--- a new lock on buffer n; "Locking a transmit buffer disarms it."
+-- A new lock on buffer n; "Locking a transmit buffer disarms it." Of FIFO buffers refusal 9 has left only the oldest entry.
 unfoldable pub lock : Control → ℕ → Control
 lock c n =
     pick (isTransmit c n) (lockError (c .transmit) (withTransmit (disarm c n) (takeLock (c .transmit) n)))
     (pick (isReceive c n) (lockError (c .receive) (withReceive c (takeLock (c .receive) n)))
     (withFifo c (lockFifo (c .fifo))))
-
--- "the place after the last one used, 0 following FSIZ − 1"
-unfoldable pub placeAfter : ℕ → ℕ → ℕ
-placeAfter fsiz n = pick (ltb n (fsiz - 1)) (n + 1) 0
 
 -- "releasing it removes that entry, and its place is used again"
 abbrev pub withoutOldest : Control → Fifo
@@ -87,10 +83,6 @@ clearIflg c n =
 unfoldable pub writeIflg : Control → ℕ → ℕ → Control
 writeIflg c n v = pick (has v IFLG && not (c .mode .init)) (withBuffers c (clearIflg c n)) c
 
--- "A transmit buffer with IFLG 0 is full."
-abbrev pub isFullTransmit : Control → ℕ → Bool
-isFullTransmit c n = isTransmit c n && not (hasIflg c n)
-
 abbrev pub abort : Control → ℕ → Buffers
 abort c n =
     withArmed
@@ -115,7 +107,7 @@ writeGier init old v = pick init v (bitOr (bitAnd v (0xFF - LOCKIE)) (bitAnd old
 
 -- the bits that $08 has: the enables in the places of $06
 abbrev pub rierBits : ℕ
-rierBits = 0xFA
+rierBits = RCVFIF + RXIF + SYNAIF + SYNNIF + SLMMIF + XSYNIF
 
 unfoldable pub written : Control → Register → ℕ → Control
 written c Mcr v = writeMcr c v

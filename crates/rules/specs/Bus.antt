@@ -8,23 +8,22 @@ use Rattle.masks.specs.Pick.{pick}
 use Rattle.masks.specs.Bits.{putBit, maskOf, lowest, highest}
 use Rattle.filter.specs.Match.{matches}
 use Rattle.contents.specs.Bytes.{Head}
-use Rattle.controller.specs.declared.SyncKind.{SyncKind}
-use Rattle.controller.specs.declared.SyncKind.the-variants.{Normal, Alarm}
-use Rattle.controller.specs.declared.Fault.{Fault}
-use Rattle.controller.specs.declared.Fault.the-variants.{Early, Lost, Illegal, Mismatch}
-use Rattle.controller.specs.declared.Answer.the-variants.{Ok, Stored, Queued, HeldOff, HeldBack, Pulse, Overrun, Unmatched, BadFrame, Ignored, Woke, NotSent}
-use Rattle.controller.specs.declared.Events.{Events}
-use Rattle.controller.specs.declared.Fifo.{Fifo}
-use Rattle.controller.specs.declared.Control.{Control}
-use Rattle.controller.specs.Record.{withMode, withEvents, withFifo, withBuffers, withAlarm, withSynced, withLast, withRisr, withGisr, withIflg, withArmed}
-use Rattle.controller.specs.Registers.{SYNAIF, SYNNIF, SLMMIF, XSYNIF, OVRNIF, ERRIF, SYNEIF, SYNLIF, ILLPIF, WAKEIF}
-use Rattle.controller.specs.Kinds.{isReceive, isArmed, isLocked}
-use Rattle.controller.specs.Flags.{cleared}
-use Rattle.controller.specs.Modes.{disarmAll, wake}
-use Rattle.controller.specs.Writes.{isFullTransmit, placeAfter}
-use Rattle.controller.specs.Plan.{headAt, Move, store, Reply, say, send, Plan, plain}
+use Rattle.rules.specs.declared.SyncKind.{SyncKind}
+use Rattle.rules.specs.declared.SyncKind.the-variants.{Normal, Alarm}
+use Rattle.rules.specs.declared.Fault.{Fault}
+use Rattle.rules.specs.declared.Fault.the-variants.{Early, Lost, Illegal, Mismatch}
+use Rattle.rules.specs.declared.Answer.the-variants.{Ok, Stored, Queued, HeldOff, HeldBack, Pulse, Overrun, Unmatched, BadFrame, Ignored, Woke, NotSent}
+use Rattle.rules.specs.declared.Events.{Events}
+use Rattle.rules.specs.declared.Fifo.{Fifo}
+use Rattle.rules.specs.declared.Control.{Control}
+use Rattle.rules.specs.Record.{withMode, withEvents, withFifo, withBuffers, withAlarm, withSynced, withLast, withRisr, withGisr, withIflg, withArmed}
+use Rattle.rules.specs.Registers.{SYNAIF, SYNNIF, SLMMIF, XSYNIF, OVRNIF, ERRIF, SYNEIF, SYNLIF, ILLPIF, WAKEIF}
+use Rattle.rules.specs.Kinds.{isReceive, isArmed, isLocked, isFullTransmit, placeAfter}
+use Rattle.rules.specs.Flags.{cleared}
+use Rattle.rules.specs.Modes.{disarmAll, wake}
+use Rattle.rules.specs.Plan.{headAt, Move, store, Reply, say, send, Plan, plain}
 
--- ---- waking: "any sync, frame or fault event wakes the module with WAKEIF and has no other effect"
+-- ---- event flags
 
 abbrev pub raiseGisr : Control → ℕ → Control
 raiseGisr c b = withEvents c (withGisr (c .events) (bitOr (c .events .gisr) b))
@@ -32,6 +31,7 @@ raiseGisr c b = withEvents c (withGisr (c .events) (bitOr (c .events .gisr) b))
 abbrev pub raiseRisr : Control → ℕ → Control
 raiseRisr c b = withEvents c (withRisr (c .events) (bitOr (c .events .risr) b))
 
+-- "any sync, frame or fault event wakes the module with WAKEIF and has no other effect"
 unfoldable pub woken : Control → Control
 woken c = wake (raiseGisr c WAKEIF)
 
@@ -60,12 +60,14 @@ synced k c hs =
     withBuffers (withEvents (withMode c (withLast (withSynced (c .mode) true) 0)) (syncEvents k (c .events)))
     (withArmed (c .buffers) (maskOf (arms c hs)))
 
+abbrev pub dueKind : Control → SyncKind
+dueKind c = pick (c .mode .alarm) Alarm Normal
+
 -- "a master emits alarm if ALARM is set, else normal, and acts as if it had received it; a slave ignores it"
-unfoldable pub syncDuePlan : Control → List Head → Plan
-syncDuePlan c hs =
-    pick (c .mode .master)
-    (pick (c .mode .alarm) (plain (synced Alarm c hs) (Pulse Alarm)) (plain (synced Normal c hs) (Pulse Normal)))
-    (plain c Ignored)
+unfoldable pub dueSync : Control → List Head → Plan
+dueSync c hs =
+    let k = dueKind c in
+    pick (c .mode .master) (plain (synced k c hs) (Pulse k)) (plain c Ignored)
 
 -- "Alarm timeout clears ALARM."
 unfoldable pub timedOut : Control → Control
@@ -86,12 +88,12 @@ faulted Mismatch c = raiseRisr c SLMMIF
 -- ---- frames
 
 -- buffer n is a dedicated receive buffer with identifier i
-unfoldable pub carries : Control → List Head → ℕ → ℕ → Bool
-carries c hs i n = isReceive c n && eqb (headAt hs n .ident) i
+unfoldable pub receives : Control → List Head → ℕ → ℕ → Bool
+receives c hs i n = isReceive c n && eqb (headAt hs n .ident) i
 
 -- "The frame's buffer is the lowest dedicated receive buffer with that identifier (h)", or none
 unfoldable pub lookup : Control → List Head → ℕ → ℕ
-lookup c hs i = lowest (carries c hs i) 0 16
+lookup c hs i = lowest (receives c hs i) 0 16
 
 -- "Locked: nothing is stored. Unlocked: stored, IFLG set."
 unfoldable pub toBuffer : Control → ℕ → Plan
@@ -142,19 +144,19 @@ received c hs good i =
 
 -- ---- slots
 
--- buffer n is armed and carries identifier i
+-- buffer n is armed and receives identifier i
 unfoldable pub offers : Control → List Head → ℕ → ℕ → Bool
 offers c hs i n = isArmed c n && eqb (headAt hs n .ident) i
 
--- "the highest is sent: IFLG set, disarmed, last identifier i"
-abbrev pub sentBuffers : Control → ℕ → Control
-sentBuffers c n =
+-- buffer n after sending: "IFLG set, disarmed"
+abbrev pub sentFrom : Control → ℕ → Control
+sentFrom c n =
     withBuffers c (withArmed (withIflg (c .buffers) (putBit (c .buffers .iflg) n true)) (putBit (c .buffers .armed) n false))
 
 unfoldable pub sendFrom : Control → ℕ → ℕ → Plan
 sendFrom c i n =
     pick (isLocked c n) (plain c (HeldBack n))
-    (record { control = withMode (sentBuffers c n) (withLast (c .mode) i); moves = []; reply = send n })
+    (record { control = withMode (sentFrom c n) (withLast (c .mode) i); moves = []; reply = send n })
 
 -- "unsynchronized, ignored. If i exceeds the last identifier and armed buffers carry i, the highest is sent [..]. If that
 -- buffer is locked, 'heldback' and nothing changes. Otherwise 'notsent'."

@@ -4,12 +4,12 @@ use mathlib.Core.Bool.{Bool, true, false, _||_}
 use lib.Bits.{bitAnd}
 use Rattle.masks.specs.Pick.{pick}
 use Rattle.masks.specs.Bits.{maskOf}
-use Rattle.controller.specs.declared.Mode.{Mode}
-use Rattle.controller.specs.declared.Buffers.{Buffers}
-use Rattle.controller.specs.declared.Control.{Control}
-use Rattle.controller.specs.Record.{withMode, withBuffers, withSleep, withSynced, withArmed, withIflg, withRier, withGier}
-use Rattle.controller.specs.Registers.{has, INITRQ, MASTER, ALARM, SLPRQ, WPULSE, SSWAI, LOCKIE, noEvents, emptyFifo}
-use Rattle.controller.specs.Kinds.{isTransmit, hasIflg}
+use Rattle.rules.specs.declared.Mode.{Mode}
+use Rattle.rules.specs.declared.Buffers.{Buffers}
+use Rattle.rules.specs.declared.Control.{Control}
+use Rattle.rules.specs.Record.{withMode, withBuffers, withSleep, withSynced, withArmed, withIflg, withRier, withGier}
+use Rattle.rules.specs.Registers.{has, INITRQ, MASTER, ALARM, SLPRQ, WPULSE, SSWAI, LOCKIE, noEvents, emptyFifo}
+use Rattle.rules.specs.Kinds.{isTransmit, hasIflg}
 
 -- ---- initialization
 
@@ -32,9 +32,9 @@ enteredMode m =
 abbrev pub enteredBuffers : Buffers → Buffers
 enteredBuffers b = record { cfg = b .cfg; iena = b .iena; iflg = 0; abtak = 0; armed = 0 }
 
--- "Entering initialization (INITRQ 0 to 1, or a lock error) clears $08, $09 but LOCKIE, all event flags, every IFLG and
--- ABTAK, arming, synchronization, sleep and any remembered clear. It empties the FIFO, both indices 0, and releases the
--- FIFO lock. [It] changes nothing else, so other locks stay."
+-- "Entering initialization (INITRQ 0 to 1, or a lock error) clears $08, $09 but LOCKIE, all event flags [..], every IFLG
+-- and ABTAK, arming, synchronization, sleep (SLPRQ, SLPAK) and any remembered clear. It empties the FIFO, both indices 0,
+-- and releases the FIFO lock. [..] entering changes nothing else, so other locks stay."
 unfoldable pub enter : Control → Control
 enter c =
     record {
@@ -61,7 +61,7 @@ leftMode m =
       last = m .last;
     }
 
--- "Leaving it sets IFLG of every transmit buffer; the module is unsynchronized."
+-- "Leaving it, [..], sets IFLG of every transmit buffer; the module is unsynchronized."
 unfoldable pub leave : Control → Control
 leave c =
     withBuffers (withMode c (leftMode (c .mode))) (withIflg (c .buffers) (maskOf (λ n. isTransmit c n || hasIflg c n)))
@@ -75,8 +75,8 @@ disarmAll c = withBuffers c (withArmed (c .buffers) 0)
 unfoldable pub wake : Control → Control
 wake c = disarmAll (withMode c (withSynced (withSleep (c .mode) false) false))
 
--- "SLPRQ 1 sets SLPRQ and SLPAK if [..] BFEN is 1; otherwise it is ignored. SLPRQ written 0 while asleep wakes, without
--- WAKEIF", in normal operation before and after the write
+-- For a write with normal operation before and after it: "SLPRQ 1 sets SLPRQ and SLPAK if [..] BFEN is 1; otherwise it is
+-- ignored. SLPRQ written 0 while asleep wakes, without WAKEIF."
 unfoldable pub writeSleep : Control → Bool → Control
 writeSleep c true = pick (c .config .bfen) (withMode c (withSleep (c .mode) true)) c
 writeSleep c false = pick (c .mode .slpak) (wake c) c

@@ -9,14 +9,14 @@ use Rattle.masks.specs.Bits.{bitOf, lowest, highest, countOf, rising}
 use Rattle.filter.specs.declared.Filter.{Filter}
 use Rattle.filter.specs.Match.{agrees, matches}
 use Rattle.contents.specs.Bytes.{blank, headOf, storeFrame}
-use Rattle.controller.specs.declared.Buffers.{Buffers}
-use Rattle.controller.specs.declared.Control.{Control}
-use Rattle.controller.specs.Record.{withConfig, withBuffers, withFsiz}
-use Rattle.controller.specs.Registers.{resetControl}
-use Rattle.controller.specs.Kinds.{isLawful}
-use Rattle.controller.specs.Flags.{receivePending, transmitPending, receiveVector, transmitVector}
-use Rattle.controller.specs.Refusals.{refuses11, refusal}
-use Rattle.controller.specs.Steps.{frame}
+use Rattle.rules.specs.declared.Buffers.{Buffers}
+use Rattle.rules.specs.declared.Control.{Control}
+use Rattle.rules.specs.Record.{withConfig, withBuffers, withFsiz}
+use Rattle.rules.specs.Registers.{resetControl}
+use Rattle.rules.specs.Kinds.{isLawful}
+use Rattle.rules.specs.Flags.{receivePending, transmitPending, receiveVector, transmitVector}
+use Rattle.rules.specs.Refusals.{refuses11, refusal}
+use Rattle.rules.specs.Steps.{frame}
 
 -- a filter pair
 abbrev pair : ℕ → ℕ → Filter

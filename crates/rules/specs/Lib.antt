@@ -1,0 +1,17 @@
+pub mod Record
+pub mod Registers
+pub mod Kinds
+pub mod Modes
+pub mod Bus
+pub mod Flags
+pub mod Refusals
+pub mod Steps
+pub mod Plan
+pub mod Reads
+pub mod Writes
+pub mod Answers
+pub mod Rules
+pub mod Hidden
+pub mod Unchanged
+pub mod Untouched
+pub mod Examples
