@@ -131,5 +131,5 @@ pub room-head : (b : Contents) (room : List ℕ) →
 room-head b room =
     fill-seen (frameOf b) room
     ∙ ap₂ (λ (x y : List ℕ). x ++ y) (frame-head b ∙ sym (head-hide (headOf b)))
-      (rest-zeros (length (frameOf b)) (length (headFrame (headOf b))) room (frame-size b ∙ sym (head-size (headOf b))))
+    (rest-zeros (length (frameOf b)) (length (headFrame (headOf b))) room (frame-size b ∙ sym (head-size (headOf b))))
     ∙ sym (fill-seen (headFrame (headOf b)) (zeros room))

@@ -9,3 +9,11 @@ pub mod KeptLaws2
 pub mod ModeLaws
 pub mod KeptModes
 pub mod KeptBits
+pub mod ViewLaws
+pub mod ControlWrite
+pub mod Entries
+pub mod ArmingLaws
+pub mod KeptArming
+pub mod ContentsLaws
+pub mod KeptContents
+pub mod Reachable

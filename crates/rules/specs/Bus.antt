@@ -144,7 +144,7 @@ received c hs good i =
 
 -- ---- slots
 
--- buffer n is armed and receives identifier i
+-- buffer n is armed and carries identifier i
 unfoldable pub offers : Control → List Head → ℕ → ℕ → Bool
 offers c hs i n = isArmed c n && eqb (headAt hs n .ident) i
 

@@ -42,7 +42,7 @@ isBusEvent timeout = true
 
 -- the place that a queued frame would take is not locked
 pub record NextFree (c : Control) : Type 0 where
-  pub next-free : c .fifo .count < c .config .fsiz → isLocked c (c .fifo .next) ≡ false
+  pub next-free : c .mode .init ≡ false → c .fifo .count < c .config .fsiz → isLocked c (c .fifo .next) ≡ false
 
 -- moves that leave buffer n alone
 pub data Avoids (n : ℕ) : List Move → Type 0 where
@@ -87,10 +87,10 @@ module _ (c : Control) (n : ℕ) (small : n < 16) (locked : isLocked c n ≡ tru
   unfolding timedOut bufctl isLocked
   timed-out-spares = record { same-bufctl = refl; avoided = none }
 
-  bus-spares : (x y : Plan) → Spares c n x → Spares c n y → Spares c n (onBus c x y)
+  bus-spares : (x y : Plan) → Spares c n x → (c .mode .init ≡ false → Spares c n y) → Spares c n (onBus c x y)
   unfolding onBus
   bus-spares x y p q =
-      pick-keeps (Spares c n) (c .mode .init) (λ t. same Ignored) (λ t. pick-keeps (Spares c n) (c .mode .slpak) (λ u. p) (λ u. q))
+      pick-keeps (Spares c n) (c .mode .init) (λ t. same Ignored) (λ t. pick-keeps (Spares c n) (c .mode .slpak) (λ u. p) (λ u. q t))
 
   due-spares : (hs : List Head) → Spares c n (dueSync c hs)
   unfolding dueSync
@@ -105,20 +105,20 @@ module _ (c : Control) (n : ℕ) (small : n < 16) (locked : isLocked c n ≡ tru
       pick-keeps (Spares c n) (isLocked c m) (λ t. record { same-bufctl = refl; avoided = none })
       (λ t. record { same-bufctl = flag-other _ _ _ _ (c .buffers .iflg) n m small (another m t); avoided = stores (another m t) })
 
-  fifo-spares : (i : ℕ) → Spares c n (toFifo (raiseLast c i) i)
+  fifo-spares : (i : ℕ) → c .mode .init ≡ false → Spares c n (toFifo (raiseLast c i) i)
   unfolding toFifo raiseLast bufctl isLocked
-  fifo-spares i =
+  fifo-spares i o =
       pick-keeps (Spares c n) (fifoTakes (raiseLast c i) i)
       (λ t. pick-keeps (Spares c n) (leb (c .config .fsiz) (c .fifo .count)) (λ u. record { same-bufctl = refl; avoided = none })
-      (λ u. record { same-bufctl = refl; avoided = stores (another (c .fifo .next) (free .next-free (leb-false (c .config .fsiz) (c .fifo .count) u))) }))
+      (λ u. record { same-bufctl = refl; avoided = stores (another (c .fifo .next) (free .next-free o (leb-false (c .config .fsiz) (c .fifo .count) u))) }))
       (λ t. record { same-bufctl = refl; avoided = none })
 
-  frame-spares : (hs : List Head) (good : Bool) (i : ℕ) → Spares c n (received c hs good i)
+  frame-spares : (hs : List Head) (good : Bool) (i : ℕ) → c .mode .init ≡ false → Spares c n (received c hs good i)
   unfolding received found bufctl isLocked
-  frame-spares hs good i =
+  frame-spares hs good i o =
       pick-keeps (Spares c n) (not (c .mode .synced)) (λ t. same Ignored)
       (λ t. pick-keeps (Spares c n) (not good || eqb i 0) (λ u. record { same-bufctl = refl; avoided = none })
-      (λ u. pick-keeps (Spares c n) (ltb (lookup c hs i) 16) (λ x. buffer-spares i (lookup c hs i)) (λ x. fifo-spares i)))
+      (λ u. pick-keeps (Spares c n) (ltb (lookup c hs i) 16) (λ x. buffer-spares i (lookup c hs i)) (λ x. fifo-spares i o)))
 
   slot-spares : (hs : List Head) (i : ℕ) → Spares c n (slotted c hs i)
   unfolding slotted sendFrom bufctl isLocked
@@ -135,12 +135,12 @@ module _ (c : Control) (n : ℕ) (small : n < 16) (locked : isLocked c n ≡ tru
   act-spares hs reset b = absurd (false≢true b)
   act-spares hs (read a) b = absurd (false≢true b)
   act-spares hs (write a v) b = absurd (false≢true b)
-  act-spares hs (sync k) b = bus-spares _ _ woken-spares (synced-spares k hs Ok)
-  act-spares hs syncDue b = bus-spares _ _ (same Ignored) (due-spares hs)
-  act-spares hs (slot i room) b = bus-spares _ _ (same Ignored) (slot-spares hs i)
-  act-spares hs (frame good f) b = bus-spares _ _ woken-spares (frame-spares hs good (getD f 0 0))
-  act-spares hs (fault k) b = bus-spares _ _ woken-spares (faulted-spares k)
-  act-spares hs timeout b = bus-spares _ _ (same Ignored) timed-out-spares
+  act-spares hs (sync k) b = bus-spares _ _ woken-spares (λ o. synced-spares k hs Ok)
+  act-spares hs syncDue b = bus-spares _ _ (same Ignored) (λ o. due-spares hs)
+  act-spares hs (slot i room) b = bus-spares _ _ (same Ignored) (λ o. slot-spares hs i)
+  act-spares hs (frame good f) b = bus-spares _ _ woken-spares (λ o. frame-spares hs good (getD f 0 0) o)
+  act-spares hs (fault k) b = bus-spares _ _ woken-spares (λ o. faulted-spares k)
+  act-spares hs timeout b = bus-spares _ _ (same Ignored) (λ o. timed-out-spares)
 
   pub decide-spares : (hs : List Head) (e : Step) → isBusEvent e ≡ true → Spares c n (decide c hs e)
   unfolding decide

@@ -1,0 +1,247 @@
+-- What keeps armed buffers as they must be: other modes, heads and locks, a disarmed buffer, a new IFLG, a write of LOCK.
+use mathlib.Core.Path.{_≡_, refl, sym, ap, _∙_}
+use Prim.Native.Nat.{ℕ, _<_}
+use mathlib.Core.Bool.{true, false, _&&_, _||_}
+use native.Mathlib.Omega.{arith}
+use borrow.Author.Tests.{eqb-false, ne-eqb}
+use lib.ListN.{set}
+use lib.Dec.{eqb}
+use Rattle.masks.specs.Pick.{pick-keeps}
+use Rattle.masks.specs.Laws.{put-other}
+use Rattle.masks.specs.Search.{never-both}
+use Rattle.locks.specs.declared.Locks.{Locks}
+use Rattle.locks.specs.Pair.{hasHolder, inPair, takeLock, releaseLock}
+use Rattle.contents.specs.Bytes.{Head}
+use Rattle.rules.specs.declared.Mode.{Mode}
+use Rattle.rules.specs.declared.Config.{Config}
+use Rattle.rules.specs.declared.Events.{Events}
+use Rattle.rules.specs.declared.Fifo.{Fifo}
+use Rattle.rules.specs.declared.Control.{Control}
+use Rattle.rules.specs.Record.{withFifo, withReceive, withTransmit}
+use Rattle.rules.specs.Registers.{has, LOCK}
+use Rattle.rules.specs.Kinds.{isTransmit, isReceive, isArmed, isLocked}
+use Rattle.rules.specs.Modes.{enter}
+use Rattle.rules.specs.Writes.{lockError, disarm, lock, lockFifo, releaseFifo, unlock, writeLock}
+use Rattle.controller.specs.View.{View}
+use Rattle.invariants.specs.Sound.{Armed, ArmingSound}
+use Rattle.invariants.specs.Kept.{at, flagged}
+use Rattle.invariants.specs.KeptLaws1.{or-left, or-right, error-keeps}
+use Rattle.invariants.specs.ViewLaws.{or-none, put-clear, put-away, bit-absent, head-other}
+
+-- ---- locks
+
+-- none of the three ways to be locked
+pub record Unlocked (c : Control) (n : ℕ) : Type 0 where
+  pub receive : inPair (c .receive) n ≡ false
+  pub transmit : inPair (c .transmit) n ≡ false
+  pub fifo : (c .fifo .locked && eqb n (c .fifo .oldest)) ≡ false
+
+unlocked-parts : (c : Control) (n : ℕ) → isLocked c n ≡ false → Unlocked c n
+unfolding isLocked
+unlocked-parts c n e =
+    let r = inPair (c .receive) n in
+    let t = inPair (c .transmit) n in
+    let f = c .fifo .locked && eqb n (c .fifo .oldest) in
+    let pairs = or-left (r || t) f e in
+    record { receive = or-left r t pairs; transmit = or-right r t pairs; fifo = or-right (r || t) f e }
+
+unlocked-by : (c : Control) (n : ℕ) → Unlocked c n → isLocked c n ≡ false
+unfolding isLocked
+unlocked-by c n u =
+    or-none (inPair (c .receive) n || inPair (c .transmit) n) (c .fifo .locked && eqb n (c .fifo .oldest))
+    (or-none (inPair (c .receive) n) (inPair (c .transmit) n) (u .receive) (u .transmit)) (u .fifo)
+
+-- 16 stands for no buffer
+no-buffer : (n : ℕ) → n < 16 → eqb n 16 ≡ false
+no-buffer n b = ne-eqb n 16 (λ e. omega arith)
+
+module _ (l : Locks) (n k : ℕ) (free : inPair l k ≡ false) where
+  -- a lock on n locks no other buffer
+  take-free : eqb k n ≡ false → inPair (takeLock l n) k ≡ false
+  unfolding inPair takeLock
+  take-free e =
+      let h = eqb k (l .holder) in
+      let d = eqb k (l .contender) in
+      pick-keeps (λ (x : Locks). inPair x k ≡ false) (hasHolder l)
+      (λ t. or-none h (eqb k n) (or-left h d free) e) (λ t. or-none (eqb k n) d e (or-right h d free))
+
+  -- a release locks none
+  release-free : k < 16 → inPair (releaseLock l n) k ≡ false
+  unfolding inPair releaseLock
+  release-free b =
+      let h = eqb k (l .holder) in
+      let d = eqb k (l .contender) in
+      pick-keeps (λ (x : Locks). inPair x k ≡ false) (eqb n (l .holder))
+      (λ t. or-none d (eqb k 16) (or-right h d free) (no-buffer k b))
+      (λ t. pick-keeps (λ (x : Locks). inPair x k ≡ false) (eqb n (l .contender))
+      (λ u. or-none h (eqb k 16) (or-left h d free) (no-buffer k b)) (λ u. free))
+
+-- the transmit window's holder is locked
+pub holder-locked : (c : Control) (n : ℕ) → isLocked c n ≡ false → n ≡ c .transmit .holder → ⊥
+unfolding inPair
+holder-locked c n e =
+    eqb-false n (c .transmit .holder)
+    (or-left (eqb n (c .transmit .holder)) (eqb n (c .transmit .contender)) (unlocked-parts c n e .transmit))
+
+-- buffers of different CFG differ
+pub kinds-apart : (c : Control) (k n : ℕ) → isTransmit c k ≡ true → isTransmit c n ≡ false → k ≡ n → ⊥
+kinds-apart c k n p q e = never-both (isTransmit c k) p (ap (isTransmit c) e ∙ q)
+
+-- ---- one part of the view changed
+
+-- nothing armed
+pub quiet : (x : View) → x .control .buffers .armed ≡ 0 → ArmingSound x
+quiet x e =
+    record { armed = λ n b a. absurd (never-both (isArmed (x .control) n) a (bit-absent (x .control .buffers .armed) n e)) }
+
+module _ (w : View) (s : ArmingSound w) where
+  abbrev c : Control
+  c = w .control
+
+  -- of mode, configuration and events only synchronization counts
+  pub same-arming : (m : Mode) (g : Config) (e : Events) → m .synced ≡ c .mode .synced →
+      ArmingSound (at w (record { mode = m; config = g; events = e; fifo = c .fifo; receive = c .receive; transmit = c .transmit; buffers = c .buffers }))
+  unfolding isLocked
+  same-arming m g e y =
+      record {
+        armed = λ n b a.
+            let q = s .armed n b a in
+            record { transmit = q .transmit; full = q .full; unlocked = q .unlocked; named = q .named; synced = y ∙ q .synced };
+      }
+
+  -- another head at a place that can't be armed
+  pub head-arming : (p : ℕ) (h : Head) → ((n : ℕ) → Armed w n → n ≡ p → ⊥) → ArmingSound (record { control = c; heads = set (w .heads) p h })
+  head-arming p h away =
+      record {
+        armed = λ n b a.
+            let q = s .armed n b a in
+            record {
+              transmit = q .transmit;
+              full = q .full;
+              unlocked = q .unlocked;
+              named = ap (λ (x : Head). eqb (x .ident) 0) (head-other (w .heads) p h n (away n q)) ∙ q .named;
+              synced = q .synced;
+            };
+      }
+
+  -- other locks that lock no armed buffer
+  pub locks-arming : (r t : Locks) (f : Fifo) →
+      ((n : ℕ) → n < 16 → isArmed c n ≡ true → isTransmit c n ≡ true → Unlocked c n → Unlocked (withFifo (withTransmit (withReceive c r) t) f) n) →
+      ArmingSound (at w (withFifo (withTransmit (withReceive c r) t) f))
+  locks-arming r t f free =
+      record {
+        armed = λ n b a.
+            let q = s .armed n b a in
+            let x = withFifo (withTransmit (withReceive c r) t) f in
+            record {
+              transmit = q .transmit;
+              full = q .full;
+              unlocked = unlocked-by x n (free n b a (q .transmit) (unlocked-parts c n (q .unlocked)));
+              named = q .named;
+              synced = q .synced;
+            };
+      }
+
+  pub disarm-arming : (n : ℕ) → ArmingSound (at w (disarm c n))
+  unfolding isLocked
+  disarm-arming n =
+      record {
+        armed = λ k b a.
+            let q = s .armed k b (put-clear (c .buffers .armed) n k b a) in
+            record { transmit = q .transmit; full = q .full; unlocked = q .unlocked; named = q .named; synced = q .synced };
+      }
+
+  -- IFLG of a buffer that isn't armed
+  pub flag-arming : (n : ℕ) → isArmed c n ≡ false → ArmingSound (at w (flagged c n))
+  unfolding isLocked
+  flag-arming n out =
+      record {
+        armed = λ k b a.
+            let q = s .armed k b a in
+            let away = ne-eqb k n (λ e. never-both (isArmed c k) a (ap (isArmed c) e ∙ out)) in
+            record {
+              transmit = q .transmit;
+              full = put-other (c .buffers .iflg) n true k away b ∙ q .full;
+              unlocked = q .unlocked;
+              named = q .named;
+              synced = q .synced;
+            };
+      }
+
+  pub enter-arming : (d : Control) → ArmingSound (at w (enter d))
+  unfolding enter
+  enter-arming d = quiet (at w (enter d)) refl
+
+  -- ---- LOCK
+
+  error-arming : (l : Locks) (d : Control) → ArmingSound (at w d) → ArmingSound (at w (lockError l d))
+  error-arming l d q = error-keeps (λ (x : Control). ArmingSound (at w x)) l d (λ t. enter-arming d) q
+
+-- LOCK of buffer n
+module _ (w : View) (s : ArmingSound w) (n : ℕ) where
+  abbrev d : Control
+  d = w .control
+
+  -- a transmit buffer is disarmed
+  transmit-locked : ArmingSound (at w (withTransmit (disarm d n) (takeLock (d .transmit) n)))
+  transmit-locked =
+      locks-arming (at w (disarm d n)) (disarm-arming w s n) (d .receive) (takeLock (d .transmit) n) (d .fifo) (λ k b a q u.
+      record {
+        receive = u .receive;
+        transmit = take-free (d .transmit) n k (u .transmit) (put-away (d .buffers .armed) n k b a);
+        fifo = u .fifo;
+      })
+
+  -- a buffer of another kind isn't armed
+  receive-locked : isTransmit d n ≡ false → ArmingSound (at w (withReceive d (takeLock (d .receive) n)))
+  receive-locked t =
+      locks-arming w s (takeLock (d .receive) n) (d .transmit) (d .fifo) (λ k b a q u.
+      record {
+        receive = take-free (d .receive) n k (u .receive) (ne-eqb k n (kinds-apart d k n q t));
+        transmit = u .transmit;
+        fifo = u .fifo;
+      })
+
+  fifo-locked : isTransmit d n ≡ false → n ≡ d .fifo .oldest → ArmingSound (at w (withFifo d (lockFifo (d .fifo))))
+  fifo-locked t e =
+      locks-arming w s (d .receive) (d .transmit) (lockFifo (d .fifo)) (λ k b a q u.
+      record {
+        receive = u .receive;
+        transmit = u .transmit;
+        fifo = ne-eqb k (d .fifo .oldest) (λ o. kinds-apart d k n q t (o ∙ sym e));
+      })
+
+  lock-arming : (isTransmit d n ≡ false → isReceive d n ≡ false → n ≡ d .fifo .oldest) → ArmingSound (at w (lock d n))
+  unfolding lock
+  lock-arming oldest =
+      pick-keeps (λ (x : Control). ArmingSound (at w x)) (isTransmit d n)
+      (λ t. error-arming w s (d .transmit) (withTransmit (disarm d n) (takeLock (d .transmit) n)) transmit-locked)
+      (λ t. pick-keeps (λ (x : Control). ArmingSound (at w x)) (isReceive d n)
+      (λ r. error-arming w s (d .receive) (withReceive d (takeLock (d .receive) n)) (receive-locked t))
+      (λ r. fifo-locked t (oldest t r)))
+
+  -- the oldest entry's lock goes with the entry
+  fifo-released : (k : ℕ) → (d .fifo .locked && eqb k (d .fifo .oldest)) ≡ false → (releaseFifo d n .locked && eqb k (releaseFifo d n .oldest)) ≡ false
+  unfolding releaseFifo
+  fifo-released k e =
+      pick-keeps (λ (f : Fifo). (f .locked && eqb k (f .oldest)) ≡ false) (d .fifo .locked && eqb n (d .fifo .oldest)) (λ t. refl) (λ t. e)
+
+  unlock-arming : ArmingSound (at w (unlock d n))
+  unfolding unlock
+  unlock-arming =
+      locks-arming w s (releaseLock (d .receive) n) (releaseLock (d .transmit) n) (releaseFifo d n) (λ k b a q u.
+      record {
+        receive = release-free (d .receive) n k (u .receive) b;
+        transmit = release-free (d .transmit) n k (u .transmit) b;
+        fifo = fifo-released k (u .fifo);
+      })
+
+  -- a new lock in the FIFO is on its oldest entry
+  pub lock-written-arming : (v : ℕ) →
+      (has v LOCK ≡ true → isLocked d n ≡ false → isTransmit d n ≡ false → isReceive d n ≡ false → n ≡ d .fifo .oldest) →
+      ArmingSound (at w (writeLock d n v))
+  unfolding writeLock
+  lock-written-arming v oldest =
+      pick-keeps (λ (x : Control). ArmingSound (at w x)) (has v LOCK)
+      (λ t. pick-keeps (λ (x : Control). ArmingSound (at w x)) (isLocked d n) (λ u. s) (λ u. lock-arming (oldest t u)))
+      (λ t. unlock-arming)
