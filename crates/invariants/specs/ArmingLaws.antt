@@ -1,16 +1,15 @@
 -- What keeps armed buffers as they must be: other modes, heads and locks, a disarmed buffer, a new IFLG, a write of LOCK.
 use mathlib.Core.Path.{_≡_, refl, sym, ap, _∙_}
 use Prim.Native.Nat.{ℕ, _<_}
-use mathlib.Core.Bool.{true, false, _&&_, _||_}
-use native.Mathlib.Omega.{arith}
-use borrow.Author.Tests.{eqb-false, ne-eqb}
+use mathlib.Core.Bool.{true, false, _&&_}
+use borrow.Author.Tests.{ne-eqb}
 use lib.ListN.{set}
 use lib.Dec.{eqb}
 use Rattle.masks.specs.Pick.{pick-keeps}
 use Rattle.masks.specs.Laws.{put-other}
 use Rattle.masks.specs.Search.{never-both}
 use Rattle.locks.specs.declared.Locks.{Locks}
-use Rattle.locks.specs.Pair.{hasHolder, inPair, takeLock, releaseLock}
+use Rattle.locks.specs.Pair.{takeLock, releaseLock}
 use Rattle.contents.specs.Bytes.{Head}
 use Rattle.rules.specs.declared.Mode.{Mode}
 use Rattle.rules.specs.declared.Config.{Config}
@@ -21,67 +20,14 @@ use Rattle.rules.specs.Record.{withFifo, withReceive, withTransmit}
 use Rattle.rules.specs.Registers.{has, LOCK}
 use Rattle.rules.specs.Kinds.{isTransmit, isReceive, isArmed, isLocked}
 use Rattle.rules.specs.Modes.{enter}
-use Rattle.rules.specs.Writes.{lockError, disarm, lock, lockFifo, releaseFifo, unlock, writeLock}
+use Rattle.rules.specs.Writes.{disarm, lockFifo, releaseFifo, unlock}
 use Rattle.controller.specs.View.{View}
 use Rattle.invariants.specs.Sound.{Armed, ArmingSound}
 use Rattle.invariants.specs.Kept.{at, flagged}
-use Rattle.invariants.specs.KeptLaws1.{or-left, or-right, error-keeps}
-use Rattle.invariants.specs.ViewLaws.{or-none, put-clear, put-away, bit-absent, head-other}
-
--- ---- locks
-
--- none of the three ways to be locked
-pub record Unlocked (c : Control) (n : ℕ) : Type 0 where
-  pub receive : inPair (c .receive) n ≡ false
-  pub transmit : inPair (c .transmit) n ≡ false
-  pub fifo : (c .fifo .locked && eqb n (c .fifo .oldest)) ≡ false
-
-unlocked-parts : (c : Control) (n : ℕ) → isLocked c n ≡ false → Unlocked c n
-unfolding isLocked
-unlocked-parts c n e =
-    let r = inPair (c .receive) n in
-    let t = inPair (c .transmit) n in
-    let f = c .fifo .locked && eqb n (c .fifo .oldest) in
-    let pairs = or-left (r || t) f e in
-    record { receive = or-left r t pairs; transmit = or-right r t pairs; fifo = or-right (r || t) f e }
-
-unlocked-by : (c : Control) (n : ℕ) → Unlocked c n → isLocked c n ≡ false
-unfolding isLocked
-unlocked-by c n u =
-    or-none (inPair (c .receive) n || inPair (c .transmit) n) (c .fifo .locked && eqb n (c .fifo .oldest))
-    (or-none (inPair (c .receive) n) (inPair (c .transmit) n) (u .receive) (u .transmit)) (u .fifo)
-
--- 16 stands for no buffer
-no-buffer : (n : ℕ) → n < 16 → eqb n 16 ≡ false
-no-buffer n b = ne-eqb n 16 (λ e. omega arith)
-
-module _ (l : Locks) (n k : ℕ) (free : inPair l k ≡ false) where
-  -- a lock on n locks no other buffer
-  take-free : eqb k n ≡ false → inPair (takeLock l n) k ≡ false
-  unfolding inPair takeLock
-  take-free e =
-      let h = eqb k (l .holder) in
-      let d = eqb k (l .contender) in
-      pick-keeps (λ (x : Locks). inPair x k ≡ false) (hasHolder l)
-      (λ t. or-none h (eqb k n) (or-left h d free) e) (λ t. or-none (eqb k n) d e (or-right h d free))
-
-  -- a release locks none
-  release-free : k < 16 → inPair (releaseLock l n) k ≡ false
-  unfolding inPair releaseLock
-  release-free b =
-      let h = eqb k (l .holder) in
-      let d = eqb k (l .contender) in
-      pick-keeps (λ (x : Locks). inPair x k ≡ false) (eqb n (l .holder))
-      (λ t. or-none d (eqb k 16) (or-right h d free) (no-buffer k b))
-      (λ t. pick-keeps (λ (x : Locks). inPair x k ≡ false) (eqb n (l .contender))
-      (λ u. or-none h (eqb k 16) (or-left h d free) (no-buffer k b)) (λ u. free))
-
--- the transmit window's holder is locked
-pub holder-locked : (c : Control) (n : ℕ) → isLocked c n ≡ false → n ≡ c .transmit .holder → ⊥
-unfolding inPair
-holder-locked c n e =
-    eqb-false n (c .transmit .holder)
-    (or-left (eqb n (c .transmit .holder)) (eqb n (c .transmit .contender)) (unlocked-parts c n e .transmit))
+use Rattle.invariants.specs.BitLaws.{put-clear, put-away, bit-absent}
+use Rattle.invariants.specs.ViewLaws.{head-other}
+use Rattle.invariants.specs.LockLaws.{Unlocked, unlocked-parts, unlocked-by, take-free, release-free}
+use Rattle.invariants.specs.ControlWrite.{LockKept}
 
 -- buffers of different CFG differ
 pub kinds-apart : (c : Control) (k n : ℕ) → isTransmit c k ≡ true → isTransmit c n ≡ false → k ≡ n → ⊥
@@ -172,12 +118,8 @@ module _ (w : View) (s : ArmingSound w) where
   unfolding enter
   enter-arming d = quiet (at w (enter d)) refl
 
-  -- ---- LOCK
+-- ---- LOCK of buffer n
 
-  error-arming : (l : Locks) (d : Control) → ArmingSound (at w d) → ArmingSound (at w (lockError l d))
-  error-arming l d q = error-keeps (λ (x : Control). ArmingSound (at w x)) l d (λ t. enter-arming d) q
-
--- LOCK of buffer n
 module _ (w : View) (s : ArmingSound w) (n : ℕ) where
   abbrev d : Control
   d = w .control
@@ -211,15 +153,6 @@ module _ (w : View) (s : ArmingSound w) (n : ℕ) where
         fifo = ne-eqb k (d .fifo .oldest) (λ o. kinds-apart d k n q t (o ∙ sym e));
       })
 
-  lock-arming : (isTransmit d n ≡ false → isReceive d n ≡ false → n ≡ d .fifo .oldest) → ArmingSound (at w (lock d n))
-  unfolding lock
-  lock-arming oldest =
-      pick-keeps (λ (x : Control). ArmingSound (at w x)) (isTransmit d n)
-      (λ t. error-arming w s (d .transmit) (withTransmit (disarm d n) (takeLock (d .transmit) n)) transmit-locked)
-      (λ t. pick-keeps (λ (x : Control). ArmingSound (at w x)) (isReceive d n)
-      (λ r. error-arming w s (d .receive) (withReceive d (takeLock (d .receive) n)) (receive-locked t))
-      (λ r. fifo-locked t (oldest t r)))
-
   -- the oldest entry's lock goes with the entry
   fifo-released : (k : ℕ) → (d .fifo .locked && eqb k (d .fifo .oldest)) ≡ false → (releaseFifo d n .locked && eqb k (releaseFifo d n .oldest)) ≡ false
   unfolding releaseFifo
@@ -237,11 +170,15 @@ module _ (w : View) (s : ArmingSound w) (n : ℕ) where
       })
 
   -- a new lock in the FIFO is on its oldest entry
-  pub lock-written-arming : (v : ℕ) →
+  pub lock-arming : (v : ℕ) →
       (has v LOCK ≡ true → isLocked d n ≡ false → isTransmit d n ≡ false → isReceive d n ≡ false → n ≡ d .fifo .oldest) →
-      ArmingSound (at w (writeLock d n v))
-  unfolding writeLock
-  lock-written-arming v oldest =
-      pick-keeps (λ (x : Control). ArmingSound (at w x)) (has v LOCK)
-      (λ t. pick-keeps (λ (x : Control). ArmingSound (at w x)) (isLocked d n) (λ u. s) (λ u. lock-arming (oldest t u)))
-      (λ t. unlock-arming)
+      LockKept (λ (x : Control). ArmingSound (at w x)) d n v
+  lock-arming v oldest =
+      record {
+        now = s;
+        enters = λ x q. enter-arming w s x;
+        transmits = λ u t. transmit-locked;
+        receives = λ u t r. receive-locked t;
+        queues = λ a u t r. fifo-locked t (oldest a u t r);
+        unlocks = unlock-arming;
+      }

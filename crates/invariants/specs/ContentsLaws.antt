@@ -10,22 +10,22 @@ use Rattle.masks.specs.Pick.{pick-keeps}
 use Rattle.masks.specs.Bits.{bitOf}
 use Rattle.masks.specs.Laws.{put-other}
 use Rattle.masks.specs.Search.{never-both}
-use Rattle.locks.specs.declared.Locks.{Locks}
 use Rattle.locks.specs.Pair.{takeLock, releaseLock}
 use Rattle.contents.specs.Bytes.{Head}
 use Rattle.rules.specs.declared.Fifo.{Fifo}
 use Rattle.rules.specs.declared.Control.{Control}
 use Rattle.rules.specs.Record.{withFifo, withReceive, withTransmit}
-use Rattle.rules.specs.Registers.{has, emptyFifo, LOCK}
-use Rattle.rules.specs.Kinds.{isTransmit, isReceive, hasIflg, isLocked}
+use Rattle.rules.specs.Registers.{emptyFifo}
+use Rattle.rules.specs.Kinds.{isTransmit, isReceive, hasIflg}
 use Rattle.rules.specs.Modes.{enter}
-use Rattle.rules.specs.Writes.{lockError, disarm, lock, lockFifo, releaseFifo, withoutOldest, unlock, writeLock}
+use Rattle.rules.specs.Writes.{disarm, lockFifo, releaseFifo, withoutOldest, unlock}
 use Rattle.rules.specs.Plan.{headAt}
 use Rattle.controller.specs.View.{View}
 use Rattle.invariants.specs.Sound.{isEntry, ContentsSound}
 use Rattle.invariants.specs.Kept.{at, flagged}
-use Rattle.invariants.specs.KeptLaws1.{error-keeps}
-use Rattle.invariants.specs.ViewLaws.{bit-absent, head-cases, receive-kind}
+use Rattle.invariants.specs.BitLaws.{bit-absent}
+use Rattle.invariants.specs.ViewLaws.{head-cases, receive-kind}
+use Rattle.invariants.specs.ControlWrite.{LockKept}
 use Rattle.invariants.specs.Entries.{entry-same, entry-none, entry-released, entry-kind}
 
 -- with no IFLG and no entry only the heads' lengths are asked for
@@ -97,20 +97,6 @@ module _ (w : View) (s : ContentsSound w) where
 
   -- ---- LOCK
 
-  error-contents : (l : Locks) (d : Control) → ContentsSound (at w d) → ContentsSound (at w (lockError l d))
-  error-contents l d q = error-keeps (λ (x : Control). ContentsSound (at w x)) l d (λ t. enter-contents d) q
-
-  lock-contents : (n : ℕ) → ContentsSound (at w (lock c n))
-  unfolding lock
-  lock-contents n =
-      let sent = withTransmit (disarm c n) (takeLock (c .transmit) n) in
-      let taken = withReceive c (takeLock (c .receive) n) in
-      pick-keeps (λ (x : Control). ContentsSound (at w x)) (isTransmit c n)
-      (λ t. error-contents (c .transmit) sent (same-contents sent refl))
-      (λ t. pick-keeps (λ (x : Control). ContentsSound (at w x)) (isReceive c n)
-      (λ r. error-contents (c .receive) taken (same-contents taken refl))
-      (λ r. same-contents (withFifo c (lockFifo (c .fifo))) refl))
-
   unlock-contents : (n : ℕ) → (0 < c .config .fsiz → c .fifo .oldest < c .config .fsiz) → c .fifo .count ≤ c .config .fsiz → ContentsSound (at w (unlock c n))
   unfolding unlock releaseFifo
   unlock-contents n first fits =
@@ -120,12 +106,17 @@ module _ (w : View) (s : ContentsSound w) where
       entry-released c m first fits (entry-same (freed (withoutOldest c)) m (withFifo c (withoutOldest c)) refl refl refl ∙ e)) (λ m k e b r. r))
       (λ t. same-contents (freed (c .fifo)) refl)
 
-  pub lock-written-contents : (n v : ℕ) → (0 < c .config .fsiz → c .fifo .oldest < c .config .fsiz) → c .fifo .count ≤ c .config .fsiz → ContentsSound (at w (writeLock c n v))
-  unfolding writeLock
-  lock-written-contents n v first fits =
-      pick-keeps (λ (x : Control). ContentsSound (at w x)) (has v LOCK)
-      (λ t. pick-keeps (λ (x : Control). ContentsSound (at w x)) (isLocked c n) (λ u. s) (λ u. lock-contents n))
-      (λ t. unlock-contents n first fits)
+  pub lock-contents : (n v : ℕ) → (0 < c .config .fsiz → c .fifo .oldest < c .config .fsiz) → c .fifo .count ≤ c .config .fsiz →
+      LockKept (λ (x : Control). ContentsSound (at w x)) c n v
+  lock-contents n v first fits =
+      record {
+        now = s;
+        enters = λ x q. enter-contents x;
+        transmits = λ u t. same-contents (withTransmit (disarm c n) (takeLock (c .transmit) n)) refl;
+        receives = λ u t r. same-contents (withReceive c (takeLock (c .receive) n)) refl;
+        queues = λ a u t r. same-contents (withFifo c (lockFifo (c .fifo))) refl;
+        unlocks = unlock-contents n first fits;
+      }
 
 -- ---- another head
 

@@ -1,66 +1,35 @@
--- A fact whose obligations are met is kept by every step.
-use mathlib.Core.Path.{_≡_, refl, sym, ap, _∙_, subst}
-use Prim.Native.Nat.{ℕ, zero, suc, _+_, _-_, _%_, _<_, _≤_}
-use mathlib.Core.Bool.{Bool, true, false, _&&_, _||_, not, false≢true}
-use mathlib.Core.List.{List, [], _∷_}
+-- A fact about views whose obligations are met is kept by every step, so that each invariant is proved rule by rule: what
+-- a rule needs to know of a step that was not refused is read off the refusals here, once.
+use mathlib.Core.Path.{_≡_, refl, sym, subst}
+use Prim.Native.Nat.{ℕ, _+_, _-_, _%_, _<_, _≤_}
+use mathlib.Core.Bool.{Bool, true, false, _&&_, _||_, not, or-true}
+use mathlib.Core.List.{List, []}
 use native.Mathlib.Omega.{arith}
-use native.Mathlib.Nat.{mod-lt}
-use borrow.Author.Tests.{eqb-true, ltb-true, ltb-false, leb-false, le-leb}
+use borrow.Author.Tests.{eqb-true, ltb-true, ltb-false, leb-false, le-leb, not-false}
 use lib.ListN.{getD, set}
 use lib.Seq.{set-getD}
 use lib.Dec.{eqb, ltb, leb}
-use Rattle.masks.specs.Pick.{pick, pick-true, pick-false, pick-keeps, by-test}
+use Rattle.masks.specs.Pick.{pick-keeps}
 use Rattle.masks.specs.Bits.{someOf, highest}
 use Rattle.locks.specs.Pair.{hasHolder}
-use Rattle.contents.specs.Bytes.{Head, noHead, cut}
-use Rattle.rules.specs.declared.SyncKind.{SyncKind}
-use Rattle.rules.specs.declared.SyncKind.the-variants.{Normal, Alarm}
-use Rattle.rules.specs.declared.Fault.{Fault}
+use Rattle.contents.specs.Bytes.{Head, noHead}
 use Rattle.rules.specs.declared.Register.{Register}
 use Rattle.rules.specs.declared.Register.the-variants.{Mcr, Fsizr, Tcr1, Tcr2, Tcr3, Risr, Gisr, Rier, Gier, Rivec, Tivec, Fidac, Fidmr, Mvr, Pctlbf, Buflock, Fidrj, Fidrmr, TransmitWindow, ReceiveWindow, FifoWindow, Bufctl, Reserved}
 use Rattle.rules.specs.declared.Control.{Control}
-use Rattle.rules.specs.Record.{withMode, withConfig, withEvents, withFsiz}
+use Rattle.rules.specs.Record.{withConfig, withFsiz}
 use Rattle.rules.specs.Registers.{has, between, registerAt, INITRQ, SLPRQ}
 use Rattle.rules.specs.Kinds.{isLocked, isLawful}
-use Rattle.rules.specs.Modes.{enter, leave, wake, writeSleep, modeBy, writeMcr}
+use Rattle.rules.specs.Modes.{writeSleep, modeBy, writeMcr}
 use Rattle.rules.specs.Writes.{writeBufctl, written, windowMoves, writeMoves}
-use Rattle.rules.specs.Bus.{woken, synced, dueKind, dueSync, timedOut, faulted, lookup, toBuffer, fifoTakes, toFifo, raiseLast, found, received, offers, sendFrom, slotted}
-use Rattle.rules.specs.Refusals.{refuses1, refuses3, onlyInInit, refuses4, refuses5, refuses6, refuses7, refuses8, refuses9, refuses10, movedByFsiz, movedByCfg, notOldest, noLockLeft, writeRefusal, refusal}
+use Rattle.rules.specs.Bus.{synced, dueKind, dueSync, lookup, toBuffer, fifoTakes, toFifo, raiseLast, found, received, offers, sendFrom, slotted}
+use Rattle.rules.specs.Refusals.{refuses1, onlyInInit, refuses4, refuses5, refuses6, refuses7, refuses8, refuses9, refuses10, movedByFsiz, movedByCfg, notOldest, noLockLeft, refusal}
 use Rattle.rules.specs.Steps.{Step, reset, read, write, sync, syncDue, slot, frame, fault, timeout, frameIn}
-use Rattle.rules.specs.Plan.{headAt, Move, setIdent, setLength, setData, store, Plan, plain}
+use Rattle.rules.specs.Plan.{headAt, Move, Plan}
 use Rattle.rules.specs.Rules.{onBus, act, decide}
 use Rattle.controller.specs.View.{View, headMove, headMoves, viewNext}
 use Rattle.invariants.specs.Accepted.{Accepted, write-accepted, isAddress, address-of}
 use Rattle.invariants.specs.Kept.{at, rewritten, resetView, Kept}
-
--- ---- tests
-
-impossible : {G : Type 0} → false ≡ true → G
-impossible e = absurd (false≢true e)
-
-not-false : (t : Bool) → not t ≡ false → t ≡ true
-not-false true e = refl
-not-false false e = sym e
-
-and-left : (a b : Bool) → (a && b) ≡ true → a ≡ true
-and-left true b e = refl
-and-left false b e = e
-
-and-right : (a b : Bool) → (a && b) ≡ true → b ≡ true
-and-right true b e = e
-and-right false b e = impossible e
-
-or-left : (a b : Bool) → (a || b) ≡ false → a ≡ false
-or-left true b e = e
-or-left false b e = refl
-
-or-right : (a b : Bool) → (a || b) ≡ false → b ≡ false
-or-right true b e = impossible (sym e)
-or-right false b e = e
-
-or-true : (a : Bool) → (a || true) ≡ true
-or-true true = refl
-or-true false = refl
+use Rattle.invariants.specs.Tests.{and-left, and-right, or-left, or-right}
 
 -- ---- from the refusals
 
@@ -101,7 +70,7 @@ receive-held c a p e h r =
     let lo : leb 0x30 a ≡ true = le-leb 0x30 a (omega arith) in
     let hi : leb a 0x3D ≡ true = le-leb a 0x3D (omega arith) in
     let t : (between 0x30 a 0x3D && not (hasHolder (c .receive))) ≡ false =
-        or-right (between 0x20 a 0x2D && not (hasHolder (c .transmit))) _ r in
+    or-right (between 0x20 a 0x2D && not (hasHolder (c .transmit))) _ r in
     ltb-true (c .receive .holder) 16 (not-false (hasHolder (c .receive)) (simp (lo, hi) at t))
 
 receive-init : (a p : ℕ) → a ≡ 0x30 + p → p < 14 → onlyInInit a ≡ true
@@ -123,7 +92,7 @@ module _ (c : Control) (a n v : ℕ) (e : a ≡ 0x50 + n) where
   unfolding refuses7
   kind-stays r =
       let t : (leb 0x50 a && movedByCfg c (a - 0x50) v) ≡ false =
-          or-right (eqb a 0x01 && someOf (movedByFsiz c (v % 32)) 16) _ r in
+      or-right (eqb a 0x01 && someOf (movedByFsiz c (v % 32)) 16) _ r in
       simp (low, back) at t
 
   oldest-locked : refuses9 c a v ≡ false → notOldest c n v ≡ false

@@ -1,36 +1,27 @@
 -- What a fact about views needs to be kept by every step: an obligation for each rule, with what is known where the rule
 -- acts. Refused and ignored steps, and reads, change nothing.
-use mathlib.Core.Path.{_≡_, refl, sym, ap, _∙_, subst}
-use Prim.Native.Nat.{ℕ, zero, suc, _+_, _-_, _%_, _<_, _≤_}
-use mathlib.Core.Bool.{Bool, true, false, _&&_, _||_, not, false≢true}
-use mathlib.Core.List.{List, [], _∷_}
-use native.Mathlib.Omega.{arith}
-use borrow.Author.Tests.{eqb-true, eqb-false, ltb-true, ltb-false, eq-eqb, leb-false, lt-ltb, le-leb}
-use lib.ListN.{getD, set, replicate}
-use lib.Dec.{eqb, ltb, leb}
-use Rattle.masks.specs.Pick.{pick, pick-true, pick-false, pick-keeps, by-test}
+use mathlib.Core.Path.{_≡_}
+use Prim.Native.Nat.{ℕ, _<_, _≤_}
+use mathlib.Core.Bool.{true, false}
+use mathlib.Core.List.{List}
+use lib.ListN.{set, replicate}
+use lib.Dec.{eqb}
 use Rattle.masks.specs.Bits.{putBit, someOf, highest}
-use Rattle.locks.specs.Pair.{hasHolder}
 use Rattle.contents.specs.Bytes.{Head, noHead, cut}
 use Rattle.rules.specs.declared.SyncKind.{SyncKind}
-use Rattle.rules.specs.declared.SyncKind.the-variants.{Normal, Alarm}
 use Rattle.rules.specs.declared.Fault.{Fault}
-use Rattle.rules.specs.declared.Register.{Register}
-use Rattle.rules.specs.declared.Register.the-variants.{Mcr, Fsizr, Tcr1, Tcr2, Tcr3, Risr, Gisr, Rier, Gier, Rivec, Tivec, Fidac, Fidmr, Mvr, Pctlbf, Buflock, Fidrj, Fidrmr, TransmitWindow, ReceiveWindow, FifoWindow, Bufctl, Reserved}
 use Rattle.rules.specs.declared.Config.{Config}
 use Rattle.rules.specs.declared.Control.{Control}
 use Rattle.rules.specs.Record.{withMode, withConfig, withEvents, withFifo, withBuffers, withFsiz, withSleep, withLast, withIflg}
-use Rattle.rules.specs.Registers.{has, between, registerAt, resetControl, INITRQ, SLPRQ, OVRNIF, ERRIF}
+use Rattle.rules.specs.Registers.{resetControl, OVRNIF, ERRIF}
 use Rattle.rules.specs.Kinds.{isLocked, isLawful}
 use Rattle.rules.specs.Flags.{writeRisr, writeGisr}
-use Rattle.rules.specs.Modes.{enter, leave, wake, writeSleep, writtenMode, modeBy, writeMcr}
-use Rattle.rules.specs.Writes.{writeBufctl, written, windowMoves, writeMoves}
-use Rattle.rules.specs.Bus.{raiseGisr, woken, synced, dueSync, timedOut, faulted, lookup, toBuffer, fifoTakes, withEntry, toFifo, raiseLast, found, received, offers, sentFrom, sendFrom, slotted}
-use Rattle.rules.specs.Refusals.{refuses1, refuses2, refuses3, onlyInInit, refuses4, refuses5, refuses6, refuses7, refuses8, refuses9, refuses10, refuses11, refuses12, movedByFsiz, movedByCfg, notOldest, noLockLeft, firstOf, readRefusal, writeRefusal, refusal}
-use Rattle.rules.specs.Steps.{Step, reset, read, write, sync, syncDue, slot, frame, fault, timeout, frameIn}
-use Rattle.rules.specs.Plan.{headAt, Move, setIdent, setLength, setData, store, Plan, plain}
-use Rattle.rules.specs.Rules.{onBus, act, decide}
-use Rattle.controller.specs.View.{View, headMove, headMoves, viewNext}
+use Rattle.rules.specs.Modes.{enter, leave, wake, writtenMode}
+use Rattle.rules.specs.Writes.{writeBufctl}
+use Rattle.rules.specs.Bus.{raiseGisr, woken, synced, timedOut, faulted, lookup, withEntry, raiseLast, offers, sentFrom}
+use Rattle.rules.specs.Refusals.{movedByFsiz, movedByCfg, notOldest, noLockLeft}
+use Rattle.rules.specs.Plan.{headAt}
+use Rattle.controller.specs.View.{View}
 
 -- the view w with another control state
 abbrev pub at : View → Control → View
@@ -93,8 +84,10 @@ pub record Kept (P : View → Type 0) (w : View) : Type 0 where
   pub overruns : (i : ℕ) → w .control .mode .init ≡ false → P (at w (raiseGisr (raiseLast (w .control) i) OVRNIF))
   pub stores : (i l : ℕ) → w .control .mode .init ≡ false → w .control .mode .synced ≡ true →
       lookup (w .control) (w .heads) i < 16 → isLocked (w .control) (lookup (w .control) (w .heads) i) ≡ false →
-      P (record { control = flagged (raiseLast (w .control) i) (lookup (w .control) (w .heads) i);
-                  heads = putHead w (lookup (w .control) (w .heads) i) i (cut l) })
+      P (record {
+        control = flagged (raiseLast (w .control) i) (lookup (w .control) (w .heads) i);
+        heads = putHead w (lookup (w .control) (w .heads) i) i (cut l);
+      })
   pub queues : (i l : ℕ) → w .control .mode .init ≡ false → w .control .mode .synced ≡ true → eqb i 0 ≡ false →
       16 ≤ lookup (w .control) (w .heads) i → w .control .fifo .count < w .control .config .fsiz →
       P (record { control = withFifo (raiseLast (w .control) i) (withEntry (w .control)); heads = putHead w (w .control .fifo .next) i (cut l) })

@@ -1,11 +1,11 @@
--- An armed buffer is a full, unlocked transmit buffer with an identifier, of a synchronized module: every rule keeps that.
-use mathlib.Core.Path.{_≡_, refl, sym, ap, _∙_}
+-- Every rule keeps that an armed buffer is a full, unlocked transmit buffer with an identifier, of a synchronized module.
+use mathlib.Core.Path.{_≡_, refl, sym, _∙_}
 use Prim.Native.Nat.{ℕ, _<_}
-use mathlib.Core.Bool.{Bool, true, false, _&&_, not}
+use mathlib.Core.Bool.{true, false, _&&_, not}
 use mathlib.Core.List.{List}
 use native.Mathlib.Omega.{arith}
-use borrow.Author.Tests.{eqb-true, leb-false, lt-ltb, not-true, not-false}
-use lib.Dec.{eqb, ltb, leb}
+use borrow.Author.Tests.{not-true}
+use lib.Dec.{eqb}
 use Rattle.masks.specs.Pick.{by-test}
 use Rattle.masks.specs.Bits.{bitOf}
 use Rattle.masks.specs.Laws.{bit-mask, put-same}
@@ -17,29 +17,22 @@ use Rattle.rules.specs.declared.Fault.the-variants.{Early, Lost, Illegal, Misma
 use Rattle.rules.specs.declared.Buffers.{Buffers}
 use Rattle.rules.specs.declared.Control.{Control}
 use Rattle.rules.specs.Record.{withMode, withConfig, withFifo, withBuffers, withFsiz, withSleep, withAlarm, withLast}
-use Rattle.rules.specs.Registers.{has, resetControl, LOCK, SLMMIF, OVRNIF, ERRIF, SYNEIF, ILLPIF, WAKEIF}
-use Rattle.rules.specs.Kinds.{isTransmit, isFullTransmit, hasIflg, isArmed, isLocked, isOldest}
+use Rattle.rules.specs.Registers.{resetControl, SLMMIF, OVRNIF, ERRIF, SYNEIF, ILLPIF, WAKEIF}
+use Rattle.rules.specs.Kinds.{isTransmit, isFullTransmit, hasIflg, isArmed, isLocked}
 use Rattle.rules.specs.Flags.{writeRisr, writeGisr}
 use Rattle.rules.specs.Modes.{leave, wake, writtenMode}
-use Rattle.rules.specs.Writes.{cfgAfter, disarm, writeBufctl}
+use Rattle.rules.specs.Writes.{disarm, writeBufctl}
 use Rattle.rules.specs.Bus.{raiseGisr, raiseRisr, woken, arms, synced, timedOut, faulted, lookup, raiseLast, withEntry, sentFrom}
-use Rattle.rules.specs.Refusals.{newLock, notOldest}
+use Rattle.rules.specs.Refusals.{notOldest}
 use Rattle.rules.specs.Plan.{headAt}
 use Rattle.controller.specs.View.{View}
 use Rattle.invariants.specs.Sound.{Armed, ArmingSound, Sound}
 use Rattle.invariants.specs.Kept.{at, rewritten, putHead, flagged, resetView, Kept}
-use Rattle.invariants.specs.KeptLaws1.{and-left, and-right}
-use Rattle.invariants.specs.ViewLaws.{bit-absent, lawful-low, receive-kind, found-receive}
-use Rattle.invariants.specs.ControlWrite.{Prepared, controls-by, prepared-kind}
-use Rattle.invariants.specs.ArmingLaws.{holder-locked, kinds-apart, quiet, same-arming, head-arming, locks-arming, disarm-arming, flag-arming, enter-arming, lock-written-arming}
-
--- the last of five tests, where their conjunction fails and the others hold
-last-test : (a b f e o : Bool) → a ≡ true → b ≡ false → f ≡ false → e ≡ true → (a && not b && not f && e && not o) ≡ false → o ≡ true
-last-test a b f e o p q r t h = not-false o (simp (p, q, r, t) at h)
-
--- CFG 0 and no receive buffer: below FSIZ
-below-size : (t : Bool) (f n : ℕ) → t ≡ false → (not t && leb f n) ≡ false → n < f
-below-size t f n e h = leb-false f n (simp e at h)
+use Rattle.invariants.specs.Tests.{and-left, and-right}
+use Rattle.invariants.specs.ViewLaws.{lawful-low, receive-kind, found-receive}
+use Rattle.invariants.specs.LockLaws.{holder-locked}
+use Rattle.invariants.specs.ControlWrite.{Prepared, prepared-kind, controls-by, new-oldest}
+use Rattle.invariants.specs.ArmingLaws.{kinds-apart, quiet, same-arming, head-arming, locks-arming, disarm-arming, flag-arming, enter-arming, lock-arming}
 
 module _ (w : View) (s : Sound w) where
   abbrev c : Control
@@ -76,9 +69,7 @@ module _ (w : View) (s : Sound w) where
   unfolding isLocked
   prepared-arming n v b p =
       by-test (c .mode .init)
-      (λ i. record {
-        armed = λ k l a. absurd (never-both (isArmed c k) (p .armed-less k l a) (bit-absent (c .buffers .armed) k (s .modes .idle i .armed)));
-      })
+      (λ i. init-quiet (withBuffers c b) (w .heads) i (p .init-armed i))
       (λ i. record {
         armed = λ k l a.
             let q = s .arming .armed k l (p .armed-less k l a) in
@@ -92,22 +83,10 @@ module _ (w : View) (s : Sound w) where
             };
       })
 
-  -- a new lock below FSIZ is on the oldest entry
-  new-oldest : (n v : ℕ) → notOldest c n v ≡ false → has v LOCK ≡ true → isLocked c n ≡ false → cfgAfter c n v ≡ false → n < c .config .fsiz → n ≡ c .fifo .oldest
-  unfolding notOldest newLock isOldest
-  new-oldest n v h a u f b =
-      eqb-true n (c .fifo .oldest)
-      (and-right (ltb 0 (c .fifo .count)) (eqb n (c .fifo .oldest))
-      (last-test (has v LOCK) (isLocked c n) (cfgAfter c n v) (ltb n (c .config .fsiz)) (isOldest c n) a u f (lt-ltb n (c .config .fsiz) b) h))
-
   controls-arming : (n v : ℕ) → n < 16 → notOldest c n v ≡ false → ArmingSound (at w (writeBufctl c n v))
-  unfolding isLocked
   controls-arming n v l h =
       controls-by ArmingSound w n v (λ b p.
-      lock-written-arming (at w (withBuffers c b)) (prepared-arming n v b p) n v (λ a u t r.
-      new-oldest n v h a u
-      (sym (put-same (c .buffers .cfg) n (cfgAfter c n v) l) ∙ ap (λ (x : ℕ). bitOf x n) (sym (p .cfg-as)) ∙ t)
-      (below-size (bitOf (b .cfg) n) (c .config .fsiz) n t r)))
+      lock-arming (at w (withBuffers c b)) (prepared-arming n v b p) n v (λ a u t r. new-oldest c n v b p l h a u t r .1))
 
   -- ---- the bus
 

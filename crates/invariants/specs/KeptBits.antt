@@ -1,26 +1,27 @@
--- The control bits of every buffer are kept: ABTAK only beside IFLG and on a transmit buffer, no IFLG on a FIFO buffer.
-use mathlib.Core.Path.{_≡_, refl, sym, ap, _∙_, subst}
+-- Every rule keeps the control bits of the buffers: ABTAK only beside IFLG and on a transmit buffer, no IFLG on a FIFO
+-- buffer.
+use mathlib.Core.Path.{_≡_, refl, sym, ap, _∙_}
 use Prim.Native.Nat.{ℕ, _<_}
 use mathlib.Core.Bool.{Bool, true, false, _&&_, _||_, not}
 use borrow.Author.Tests.{not-true, le-ltb, leb-true}
-use lib.Dec.{eqb, ltb, leb}
+use lib.Dec.{ltb, leb}
 use Rattle.masks.specs.Pick.{pick, pick-keeps, by-test}
 use Rattle.masks.specs.Bits.{bitOf, maskOf, putBit, highest}
 use Rattle.masks.specs.Laws.{bit-none, bit-mask}
-use Rattle.masks.specs.Search.{lowest-holds, highest-holds}
-use Rattle.locks.specs.declared.Locks.{Locks}
 use Rattle.rules.specs.declared.Fault.the-variants.{Early, Lost, Illegal, Mismatch}
 use Rattle.rules.specs.declared.Control.{Control}
-use Rattle.rules.specs.Registers.{has, resetControl, IFLG, LOCK, ABTRQ}
-use Rattle.rules.specs.Kinds.{isTransmit, isFifo, isReceive, isArmed, isLocked, hasIflg, isFullTransmit}
-use Rattle.rules.specs.Plan.{headAt}
-use Rattle.controller.specs.View.{View}
+use Rattle.rules.specs.Registers.{has, resetControl, IFLG, ABTRQ}
+use Rattle.rules.specs.Kinds.{isTransmit, isFifo, hasIflg, isFullTransmit}
 use Rattle.rules.specs.Modes.{enter, leave, wake}
-use Rattle.rules.specs.Writes.{entersByLock, lockError, lock, unlock, cfgAfter, writeCfg, writeIena, writeIflg, writeAbtrq, writeLock, writeBufctl}
-use Rattle.rules.specs.Bus.{woken, synced, timedOut, faulted, raiseLast, receives, lookup, offers}
+use Rattle.rules.specs.Writes.{unlock, cfgAfter, writeCfg, writeIena, writeIflg, writeAbtrq, writeLock, writeBufctl}
+use Rattle.rules.specs.Bus.{woken, synced, timedOut, faulted, raiseLast, lookup, offers}
+use Rattle.controller.specs.View.{View}
 use Rattle.invariants.specs.Sound.{Sound, BitsSound, Idle}
 use Rattle.invariants.specs.Kept.{Kept, resetView}
-use Rattle.invariants.specs.KeptLaws2.{impossible, and-left, and-right, put-keeps, cfg-stays}
+use Rattle.invariants.specs.Tests.{impossible, and-left, and-right}
+use Rattle.invariants.specs.BitLaws.{put-keeps}
+use Rattle.invariants.specs.ViewLaws.{found-receive, sent-armed}
+use Rattle.invariants.specs.ControlWrite.{cfg-stays, lock-keeps}
 
 -- ---- the masks and FSIZ alone
 
@@ -127,10 +128,9 @@ module _ {cfg fsiz iflg abtak : ℕ} (b : Bits cfg fsiz iflg abtak) where
 
 -- ---- a control write, part by part
 
-lockError-bits : (l : Locks) (c : Control) → BitsOf c → BitsOf (lockError l c)
-unfolding lockError enter
-lockError-bits l c b =
-    pick-keeps BitsOf (entersByLock l c) (λ p. none-set (c .buffers .cfg) (c .config .fsiz)) (λ p. b)
+enter-bits : (c : Control) → BitsOf (enter c)
+unfolding enter
+enter-bits c = none-set (c .buffers .cfg) (c .config .fsiz)
 
 module _ (c : Control) (n v : ℕ) (b : BitsOf c) where
   -- CFG changes in initialization alone, where no flag stands
@@ -156,24 +156,23 @@ module _ (c : Control) (n v : ℕ) (b : BitsOf c) where
       (λ p. abort-set b n (and-left (isTransmit c n) (not (hasIflg c n)) (and-right (has v ABTRQ && not (c .mode .init)) (isFullTransmit c n) p)))
       (λ p. b)
 
-  lock-bits : BitsOf (lock c n)
-  unfolding lock
-  lock-bits =
-      pick-keeps BitsOf (isTransmit c n) (λ p. lockError-bits (c .transmit) _ b)
-      (λ p. pick-keeps BitsOf (isReceive c n) (λ r. lockError-bits (c .receive) _ b) (λ r. b))
-
-  unlock-bits : BitsOf (unlock c n)
+  lock-bits : BitsOf (writeLock c n v)
   unfolding unlock
-  unlock-bits = b
-
-  writeLock-bits : BitsOf (writeLock c n v)
-  unfolding writeLock
-  writeLock-bits = pick-keeps BitsOf (has v LOCK) (λ p. pick-keeps BitsOf (isLocked c n) (λ l. b) (λ l. lock-bits)) (λ p. unlock-bits)
+  lock-bits =
+      lock-keeps BitsOf c n v
+      (record {
+        now = b;
+        enters = λ d q. enter-bits d;
+        transmits = λ u t. b;
+        receives = λ u t r. b;
+        queues = λ a u t r. b;
+        unlocks = b;
+      })
 
 bufctl-bits : (c : Control) (n v : ℕ) → BitsOf c → (c .mode .init ≡ true → Idle c) → BitsOf (writeBufctl c n v)
 unfolding writeBufctl
 bufctl-bits c n v b idle =
-    writeLock-bits _ n v (abtrq-bits _ n v (iflg-bits _ n v (iena-bits _ n v (cfg-bits c n v b idle))))
+    lock-bits _ n v (abtrq-bits _ n v (iflg-bits _ n v (iena-bits _ n v (cfg-bits c n v b idle))))
 
 -- ---- all the rules
 
@@ -187,28 +186,21 @@ module _ (w : View) (s : Sound w) where
 
   -- a frame's buffer is a dedicated receive buffer
   lookup-outside : (i : ℕ) → lookup (w .control) (w .heads) i < 16 → isFifo (w .control) (lookup (w .control) (w .heads) i) ≡ false
-  unfolding lookup receives
-  lookup-outside i h =
-      let n = lookup (w .control) (w .heads) i in
-      receive-outside (w .control .buffers .cfg) (w .control .config .fsiz) n
-      (and-left (isReceive (w .control) n) (eqb (headAt (w .heads) n .ident) i) (lowest-holds (receives (w .control) (w .heads) i) 0 16 h))
+  lookup-outside i h = receive-outside (w .control .buffers .cfg) (w .control .config .fsiz) _ (found-receive (w .control) (w .heads) i h)
 
   -- the buffer that is sent is armed, so a transmit buffer
   sent-outside : (i n : ℕ) → n ≡ highest (offers (w .control) (w .heads) i) 16 → n < 16 → isFifo (w .control) n ≡ false
-  unfolding offers
   sent-outside i n e h =
-      let found : offers (w .control) (w .heads) i n ≡ true =
-      subst (λ (k : ℕ). k < 16 → offers (w .control) (w .heads) i k ≡ true) (sym e) (highest-holds (offers (w .control) (w .heads) i) 16) h in
       transmit-outside (w .control .buffers .cfg) (w .control .config .fsiz) n
-      (s .arming .armed n h (and-left (isArmed (w .control) n) (eqb (headAt (w .heads) n .ident) i) found) .transmit)
+      (s .arming .armed n h (sent-armed (w .control) (w .heads) i n e h) .transmit)
 
   pub bits-kept : Kept BitsSound w
-  unfolding enter leave wake woken synced timedOut faulted raiseLast
+  unfolding leave wake woken synced timedOut faulted raiseLast
   bits-kept =
       record {
         stays = λ v i. sound-of now;
         leaves = λ v i l. sound-of (flag-all now);
-        enters = λ v i. sound-of (none-set (w .control .buffers .cfg) (w .control .config .fsiz));
+        enters = λ v i. sound-of (enter-bits _);
         goes-on = λ v i. sound-of now;
         sleeps = λ v i. sound-of now;
         wakes-up = λ v i a. sound-of now;

@@ -1,15 +1,16 @@
--- Lengths and identifiers of received frames: every rule keeps what holds of them.
-use mathlib.Core.Path.{_≡_, refl, sym, ap, _∙_, subst}
+-- Every rule keeps the lengths and identifiers of received frames: at most 12, and none in the FIFO with an identifier of a
+-- receive buffer.
+use mathlib.Core.Path.{_≡_, refl, sym, ap, _∙_}
 use Prim.Native.Nat.{ℕ, zero, suc, _<_, _≤_}
 use mathlib.Core.Bool.{Bool, true, false, _&&_, _||_, not}
 use native.Mathlib.Omega.{arith}
-use borrow.Author.Tests.{ne-eqb, leb-true}
+use borrow.Author.Tests.{ne-eqb}
 use lib.ListN.{set, length-set, replicate}
 use lib.Dec.{eqb, leb}
 use Rattle.masks.specs.Pick.{by-test}
 use Rattle.masks.specs.Bits.{bitOf, highest}
 use Rattle.masks.specs.Laws.{bit-mask, put-other}
-use Rattle.masks.specs.Search.{never-both, highest-holds}
+use Rattle.masks.specs.Search.{never-both}
 use Rattle.contents.specs.Bytes.{Head, noHead, cut}
 use Rattle.rules.specs.declared.SyncKind.{SyncKind}
 use Rattle.rules.specs.declared.Fault.{Fault}
@@ -18,7 +19,7 @@ use Rattle.rules.specs.declared.Buffers.{Buffers}
 use Rattle.rules.specs.declared.Control.{Control}
 use Rattle.rules.specs.Record.{withMode, withConfig, withEvents, withFifo, withBuffers, withFsiz, withSleep, withLast}
 use Rattle.rules.specs.Registers.{resetControl, OVRNIF, ERRIF, WAKEIF}
-use Rattle.rules.specs.Kinds.{isTransmit, isReceive, hasIflg, isArmed}
+use Rattle.rules.specs.Kinds.{isTransmit, isReceive, hasIflg}
 use Rattle.rules.specs.Flags.{writeRisr, writeGisr}
 use Rattle.rules.specs.Modes.{leave, wake}
 use Rattle.rules.specs.Writes.{writeBufctl}
@@ -27,11 +28,11 @@ use Rattle.rules.specs.Plan.{headAt}
 use Rattle.controller.specs.View.{View}
 use Rattle.invariants.specs.Sound.{isEntry, ContentsSound, Sound}
 use Rattle.invariants.specs.Kept.{at, rewritten, putHead, flagged, resetView, Kept}
-use Rattle.invariants.specs.KeptLaws1.{and-left, and-right}
-use Rattle.invariants.specs.ViewLaws.{or-cases, bit-absent, head-cases, lawful-low, receive-kind, found-receive, found-ident, unfound}
-use Rattle.invariants.specs.ControlWrite.{Prepared, controls-by, prepared-kind}
+use Rattle.invariants.specs.Tests.{or-cases}
+use Rattle.invariants.specs.ViewLaws.{head-cases, lawful-low, receive-kind, receive-high, found-receive, found-ident, unfound, sent-armed}
+use Rattle.invariants.specs.ControlWrite.{Prepared, prepared-kind, controls-by}
 use Rattle.invariants.specs.Entries.{entry-same, entry-none, entry-low, entry-queued, entry-kind}
-use Rattle.invariants.specs.ContentsLaws.{marks, idle-contents, less-contents, same-contents, enter-contents, flag-contents, put-contents, lock-written-contents}
+use Rattle.invariants.specs.ContentsLaws.{marks, idle-contents, less-contents, same-contents, enter-contents, flag-contents, put-contents, lock-contents}
 
 module _ (w : View) (s : Sound w) where
   abbrev c : Control
@@ -98,24 +99,19 @@ module _ (w : View) (s : Sound w) where
   -- CFG changes only in initialization, IFLG is new only on a transmit buffer
   prepared-contents : (n v : ℕ) (b : Buffers) → Prepared c n v b → ContentsSound (at w (withBuffers c b))
   prepared-contents n v b p =
-      let x = withBuffers c b in
-      let entry : (m : ℕ) → isEntry x m ≡ true → isEntry c m ≡ true = λ m e. sym (entry-same c m x refl refl refl) ∙ e in
       by-test (c .mode .init)
-      (λ i. less-contents w (s .contents) x
-      (λ k l r f. absurd (never-both (hasIflg c k) (old k l r f) (bit-absent (c .buffers .iflg) k (s .modes .idle i .iflg))))
-      entry (λ m k e l r. absurd (entry-none c m (s .modes .idle i .fifo) (entry m e))))
-      (λ i. less-contents w (s .contents) x (λ k l r f. (kept i k l r, old k l r f)) entry (λ m k e l r. kept i k l r))
+      (λ i. init-contents (withBuffers c b) i refl (p .init-iflg i))
+      (λ i. less-contents w (s .contents) (withBuffers c b)
+      (λ k l r f. (kept i k l r, by-test (hasIflg c k) (λ t. t) (λ t. absurd (never-both (bitOf (b .cfg) k) (p .iflg-new k l t f .0) (receive-kind (withBuffers c b) k r)))))
+      (λ m e. sym (entry-same c m (withBuffers c b) refl refl refl) ∙ e) (λ m k e l r. kept i k l r))
     where
-      old : (k : ℕ) → k < 16 → isReceive (withBuffers c b) k ≡ true → bitOf (b .iflg) k ≡ true → hasIflg c k ≡ true
-      old k l r f = by-test (hasIflg c k) (λ t. t) (λ t. absurd (never-both (bitOf (b .cfg) k) (p .iflg-new k l t f .0) (receive-kind (withBuffers c b) k r)))
-
       kept : c .mode .init ≡ false → (k : ℕ) → k < 16 → isReceive (withBuffers c b) k ≡ true → isReceive c k ≡ true
       kept i k l r = ap (λ (t : Bool). not t && leb (c .config .fsiz) k) (sym (prepared-kind c n v b p i k l)) ∙ r
 
   controls-contents : (n v : ℕ) → ContentsSound (at w (writeBufctl c n v))
   controls-contents n v =
       controls-by ContentsSound w n v (λ b p.
-      lock-written-contents (at w (withBuffers c b)) (prepared-contents n v b p) n v (s .fifo .oldest-lt) (s .fifo .count-le))
+      lock-contents (at w (withBuffers c b)) (prepared-contents n v b p) n v (s .fifo .oldest-lt) (s .fifo .count-le))
 
   -- ---- the bus
 
@@ -172,18 +168,16 @@ module _ (w : View) (s : Sound w) where
         entry = λ e. omega arith;
         kind = λ n r. r;
         received-other = λ n a ne r f. f;
-        entry-other = λ m ne e. entry-queued c m (w .heads) (s .fifo) ne (entry-same x m (withFifo c (withEntry c)) refl refl refl ∙ e);
+        entry-other = λ m ne e. entry-queued c m (s .fifo) ne (entry-same x m (withFifo c (withEntry c)) refl refl refl ∙ e);
         as-entry = λ e n a r ne. unfound c (w .heads) i none n a r;
         as-receive = λ r m e ne.
-            absurd (let high = leb-true (c .config .fsiz) p (and-right (not (isTransmit c p)) (leb (c .config .fsiz) p) r) in omega arith);
+            absurd (let high = receive-high c p r in omega arith);
       })
 
   -- a buffer that is sent is armed, hence a transmit buffer
   sends-contents : (i n : ℕ) → n ≡ highest (offers c (w .heads) i) 16 → n < 16 → ContentsSound (at w (withMode (sentFrom c n) (withLast (c .mode) i)))
-  unfolding offers
   sends-contents i n e b =
-      let offered = subst (λ (k : ℕ). offers c (w .heads) i k ≡ true) (sym e) (highest-holds (offers c (w .heads) i) 16 (omega arith)) in
-      let armed = and-left (isArmed c n) (eqb (headAt (w .heads) n .ident) i) offered in
+      let armed = sent-armed c (w .heads) i n e b in
       same-contents (at w (flagged c n)) (flag-contents w (s .contents) n (s .arming .armed n b armed .transmit))
       (withMode (sentFrom c n) (withLast (c .mode) i)) refl
 

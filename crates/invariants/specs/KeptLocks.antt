@@ -1,30 +1,35 @@
--- The locks stay sound: each rule leaves them, or takes or releases one, and the kind of a locked buffer stays.
+-- Every rule keeps the locks sound: it leaves them, or takes or releases one, and the kind of a locked buffer stays.
 use mathlib.Core.Path.{_≡_, refl, sym, ap, _∙_, subst}
 use Prim.Native.Nat.{ℕ, _<_, _≤_}
-use mathlib.Core.Bool.{Bool, true, false, _&&_, _||_, not}
+use mathlib.Core.Bool.{Bool, true, false, _&&_, not}
 use mathlib.Core.List.{List}
 use native.Mathlib.Omega.{arith}
-use borrow.Author.Tests.{eqb-true, eqb-false, ltb-true, ltb-false, leb-true, eq-eqb, le-ltb, le-leb}
+use borrow.Author.Tests.{eqb-false, ltb-true, ltb-false, eq-eqb, le-ltb, le-leb}
 use lib.Dec.{eqb, ltb, leb}
-use Rattle.masks.specs.Pick.{pick-keeps, by-test}
-use Rattle.masks.specs.Bits.{someOf}
-use Rattle.masks.specs.Laws.{put-same, put-other}
+use Rattle.masks.specs.Pick.{pick-keeps}
+use Rattle.masks.specs.Bits.{bitOf, someOf}
 use Rattle.masks.specs.Search.{some-false}
 use Rattle.locks.specs.declared.Locks.{Locks}
 use Rattle.locks.specs.Pair.{none, noLocks, hasHolder, inPair, takeLock, releaseLock}
 use Rattle.contents.specs.Bytes.{Head}
+use Rattle.rules.specs.declared.Fault.the-variants.{Early, Lost, Illegal, Mismatch}
+use Rattle.rules.specs.declared.Buffers.{Buffers}
 use Rattle.rules.specs.declared.Control.{Control}
-use Rattle.rules.specs.Record.{withConfig, withFsiz}
-use Rattle.rules.specs.Registers.{has, LOCK, resetControl}
+use Rattle.rules.specs.Record.{withConfig, withBuffers, withFsiz}
+use Rattle.rules.specs.Registers.{resetControl}
 use Rattle.rules.specs.Kinds.{isTransmit, isReceive, isLocked}
 use Rattle.rules.specs.Modes.{enter, leave, wake}
-use Rattle.rules.specs.Writes.{cfgAfter, lock, unlock, writeCfg, writeLock, writeBufctl}
-use Rattle.rules.specs.Bus.{woken, synced, timedOut, raiseLast}
+use Rattle.rules.specs.Writes.{cfgAfter, unlock}
+use Rattle.rules.specs.Bus.{woken, synced, timedOut, faulted, raiseLast}
 use Rattle.rules.specs.Refusals.{movedByFsiz, movedByCfg}
 use Rattle.controller.specs.View.{View}
 use Rattle.invariants.specs.Sound.{PairSound, LocksSound, Sound}
 use Rattle.invariants.specs.Kept.{Kept, at, resetView}
-use Rattle.invariants.specs.KeptLaws1.{and-left, and-right, and-both, or-left, or-right, or-by-left, or-by-right, and-rest, beq-same, Blind, bits-keep, fault-keeps, error-keeps}
+use Rattle.invariants.specs.Tests.{and-left, and-both, and-rest, or-left, or-by-left, or-by-right, beq-same}
+use Rattle.invariants.specs.BitLaws.{put-keeps}
+use Rattle.invariants.specs.ViewLaws.{receive-high}
+use Rattle.invariants.specs.LockLaws.{receive-locked, transmit-locked, unlocked-parts}
+use Rattle.invariants.specs.ControlWrite.{Prepared, LockKept, controls-by}
 
 -- ---- a pair of locks
 
@@ -90,23 +95,6 @@ kinds-stay kind after l stay s =
 
 -- ---- both pairs
 
-module _ (c : Control) where
-  receive-locked : (m : ℕ) → inPair (c .receive) m ≡ true → isLocked c m ≡ true
-  unfolding isLocked
-  receive-locked m e = or-by-left (inPair (c .receive) m || inPair (c .transmit) m) _ (or-by-left (inPair (c .receive) m) _ e)
-
-  transmit-locked : (m : ℕ) → inPair (c .transmit) m ≡ true → isLocked c m ≡ true
-  unfolding isLocked
-  transmit-locked m e = or-by-left (inPair (c .receive) m || inPair (c .transmit) m) _ (or-by-right (inPair (c .receive) m) _ e)
-
-  receive-free : (m : ℕ) → isLocked c m ≡ false → inPair (c .receive) m ≡ false
-  unfolding isLocked
-  receive-free m e = or-left (inPair (c .receive) m) _ (or-left (inPair (c .receive) m || inPair (c .transmit) m) _ e)
-
-  transmit-free : (m : ℕ) → isLocked c m ≡ false → inPair (c .transmit) m ≡ false
-  unfolding isLocked
-  transmit-free m e = or-right (inPair (c .receive) m) _ (or-left (inPair (c .receive) m || inPair (c .transmit) m) _ e)
-
 -- the pairs alone make a view's locks sound, whatever its other parts
 locks-by : {c : Control} {hs : List Head} → PairSound (isReceive c) (c .receive) → PairSound (isTransmit c) (c .transmit) →
     LocksSound (record { control = c; heads = hs })
@@ -120,7 +108,7 @@ receive-stays : (c : Control) (size m : ℕ) → movedByFsiz c size m ≡ false 
 unfolding movedByFsiz
 receive-stays c size m unmoved k e =
     let plain = and-left (not (isTransmit c m)) _ e in
-    let above = leb-true (c .config .fsiz) m (and-right (not (isTransmit c m)) _ e) in
+    let above = receive-high c m e in
     let place =
     beq-same (ltb m size) (ltb m (c .config .fsiz))
     (and-rest (isLocked c m && not (isTransmit c m)) _ unmoved (and-both (isLocked c m) _ k plain)) in
@@ -138,70 +126,45 @@ resize-keeps w size still s =
 -- ---- a control write
 
 -- CFG of a locked buffer stays
-cfg-stays : (c : Control) (n v : ℕ) → movedByCfg c n v ≡ false → (m : ℕ) → m < 16 → isLocked c m ≡ true →
-    isTransmit (writeCfg c n v) m ≡ isTransmit c m
-unfolding movedByCfg writeCfg
-cfg-stays c n v unmoved m h k = by-test (eqb m n)
-    (λ t.
-    let e = eqb-true m n t in
-    let locked = subst (λ (i : ℕ). isLocked c i ≡ true) e k in
-    ap (isTransmit (writeCfg c n v)) e
-    ∙ put-same (c .buffers .cfg) n (cfgAfter c n v) (subst (λ (i : ℕ). i < 16) e h)
-    ∙ beq-same (cfgAfter c n v) (isTransmit c n) (and-rest (isLocked c n) _ unmoved locked)
-    ∙ ap (isTransmit c) (sym e))
-    (λ t. put-other (c .buffers .cfg) n (cfgAfter c n v) m t h)
+locked-kind : (c : Control) (n v : ℕ) (b : Buffers) → Prepared c n v b → movedByCfg c n v ≡ false → (m : ℕ) → m < 16 → isLocked c m ≡ true →
+    bitOf (b .cfg) m ≡ isTransmit c m
+unfolding movedByCfg
+locked-kind c n v b p unmoved m h k =
+    ap (λ (x : ℕ). bitOf x m) (p .cfg-as)
+    ∙ put-keeps (λ (x : Bool). x ≡ isTransmit c m) (c .buffers .cfg) n (cfgAfter c n v) m h
+    (λ e. beq-same (cfgAfter c n v) (isTransmit c n) (and-rest (isLocked c n) _ unmoved (subst (λ (i : ℕ). isLocked c i ≡ true) e k)) ∙ ap (isTransmit c) (sym e))
+    (λ d. refl)
 
-module _ (w : View) where
-  -- the locks of w with another control state
-  abbrev Holds : Control → Type 0
-  Holds c = LocksSound (at w c)
+prepared-locks : (w : View) (n v : ℕ) (b : Buffers) → Prepared (w .control) n v b → movedByCfg (w .control) n v ≡ false → LocksSound w →
+    LocksSound (at w (withBuffers (w .control) b))
+prepared-locks w n v b p unmoved s =
+    let c = w .control in
+    let stays = locked-kind c n v b p unmoved in
+    locks-by
+    (kinds-stay (isReceive c) _ (c .receive)
+    (λ m h i e. ap (λ (t : Bool). not t && leb (c .config .fsiz) m) (stays m h (receive-locked c m i)) ∙ e) (s .receive))
+    (kinds-stay (isTransmit c) _ (c .transmit) (λ m h i e. stays m h (transmit-locked c m i) ∙ e) (s .transmit))
 
-  cfg-keeps : (c : Control) (n v : ℕ) → movedByCfg c n v ≡ false → Holds c → Holds (writeCfg c n v)
-  unfolding writeCfg
-  cfg-keeps c n v unmoved s =
-      let stays = cfg-stays c n v unmoved in
-      locks-by
-      (kinds-stay (isReceive c) _ (c .receive)
-      (λ m h i e. ap (λ (t : Bool). not t && leb (c .config .fsiz) m) (stays m h (receive-locked c m i)) ∙ e) (s .receive))
-      (kinds-stay (isTransmit c) _ (c .transmit) (λ m h i e. stays m h (transmit-locked c m i) ∙ e) (s .transmit))
+enter-locks : (w : View) (c : Control) → LocksSound (at w c) → LocksSound (at w (enter c))
+unfolding enter
+enter-locks w c s = locks-by (s .receive) (s .transmit)
 
-  blind : Blind Holds
-  blind c m x e f a r s = locks-by (s .receive) (s .transmit)
-
-  enter-keeps : (c : Control) → Holds c → Holds (enter c)
-  unfolding enter
-  enter-keeps c s = locks-by (s .receive) (s .transmit)
-
-  lock-keeps : (c : Control) (n : ℕ) → n < 16 → isLocked c n ≡ false → Holds c → Holds (lock c n)
-  unfolding lock
-  lock-keeps c n h free s = pick-keeps Holds (isTransmit c n)
-      (λ t. error-keeps Holds (c .transmit) _ (enter-keeps _)
-      (locks-by (s .receive) (take-sound (isTransmit c) (c .transmit) n (s .transmit) h t (transmit-free c n free))))
-      (λ t. pick-keeps Holds (isReceive c n)
-      (λ r. error-keeps Holds (c .receive) _ (enter-keeps _)
-      (locks-by (take-sound (isReceive c) (c .receive) n (s .receive) h r (receive-free c n free)) (s .transmit)))
-      (λ r. locks-by (s .receive) (s .transmit)))
-
-  unlock-keeps : (c : Control) (n : ℕ) → Holds c → Holds (unlock c n)
-  unfolding unlock
-  unlock-keeps c n s =
-      locks-by (release-sound (isReceive c) (c .receive) n (s .receive)) (release-sound (isTransmit c) (c .transmit) n (s .transmit))
-
-  write-keeps : (c : Control) (n v : ℕ) → n < 16 → Holds c → Holds (writeLock c n v)
-  unfolding writeLock
-  write-keeps c n v h s = pick-keeps Holds (has v LOCK)
-      (λ t. pick-keeps Holds (isLocked c n) (λ k. s) (λ k. lock-keeps c n h k s))
-      (λ t. unlock-keeps c n s)
-
-  control-keeps : (c : Control) (n v : ℕ) → n < 16 → movedByCfg c n v ≡ false → Holds c → Holds (writeBufctl c n v)
-  unfolding writeBufctl
-  control-keeps c n v h unmoved s =
-      write-keeps _ n v h (bits-keep Holds blind (writeCfg c n v) n v (cfg-keeps c n v unmoved s))
+lock-locks : (w : View) (c : Control) (n v : ℕ) → n < 16 → LocksSound (at w c) → LockKept (λ (x : Control). LocksSound (at w x)) c n v
+unfolding unlock
+lock-locks w c n v h s =
+    record {
+      now = s;
+      enters = enter-locks w;
+      transmits = λ u t. locks-by (s .receive) (take-sound (isTransmit c) (c .transmit) n (s .transmit) h t (unlocked-parts c n u .transmit));
+      receives = λ u t r. locks-by (take-sound (isReceive c) (c .receive) n (s .receive) h r (unlocked-parts c n u .receive)) (s .transmit);
+      queues = λ a u t r. locks-by (s .receive) (s .transmit);
+      unlocks = locks-by (release-sound (isReceive c) (c .receive) n (s .receive)) (release-sound (isTransmit c) (c .transmit) n (s .transmit));
+    }
 
 -- ---- every rule
 
 pub locks-kept : (w : View) → Sound w → Kept LocksSound w
-unfolding leave wake woken synced timedOut raiseLast
+unfolding leave wake woken synced timedOut faulted raiseLast
 locks-kept w s =
     let c = w .control in
     let r = s .locks .receive in
@@ -209,7 +172,7 @@ locks-kept w s =
     record {
       stays = λ v i. locks-by r t;
       leaves = λ v i e. locks-by r t;
-      enters = λ v i. enter-keeps w _ (locks-by r t);
+      enters = λ v i. enter-locks w _ (locks-by r t);
       goes-on = λ v i. locks-by r t;
       sleeps = λ v i. locks-by r t;
       wakes-up = λ v i e. locks-by r t;
@@ -222,11 +185,12 @@ locks-kept w s =
       sends-length = λ l b h. locks-by r t;
       takes-ident = λ v i h. locks-by r t;
       takes-length = λ l b i h. locks-by r t;
-      controls = λ n v h unmoved o f. control-keeps w c n v h unmoved (s .locks);
+      controls = λ n v h unmoved o f.
+          controls-by LocksSound w n v (λ b p. lock-locks w _ n v h (prepared-locks w n v b p unmoved (s .locks)));
       wakes-by-bus = λ i e. locks-by r t;
       syncs = λ k i e. locks-by r t;
       times-out = locks-by r t;
-      faults = λ k i. fault-keeps (Holds w) (blind w) k c (s .locks);
+      faults = λ k i. elim k [ Early ↦ locks-by r t | Lost ↦ locks-by r t | Illegal ↦ locks-by r t | Mismatch ↦ locks-by r t ];
       bad-frame = λ i. locks-by r t;
       passes = λ i e. locks-by r t;
       overruns = λ i e. locks-by r t;

@@ -1,53 +1,49 @@
--- The modes are kept: idle in initialization, a lawful layout outside it, SLPAK only with SLPRQ, and a remembered clear
--- only of a standing SYNLIF, unsynchronized.
+-- Every rule keeps the facts of the modes: idle in initialization, a lawful layout outside it, SLPAK only with SLPRQ, and a
+-- remembered clear only of a standing SYNLIF, unsynchronized.
 use mathlib.Core.Path.{_≡_, refl, sym, ap, _∙_}
 use Prim.Native.Nat.{ℕ, _<_}
-use mathlib.Core.Bool.{true, false, _&&_, not}
-use borrow.Author.Tests.{not-false, lt-ltb, leb-false}
-use lib.Dec.{eqb, ltb, leb}
+use mathlib.Core.Bool.{true, false, _&&_}
+use native.Mathlib.Omega.{arith}
+use lib.Dec.{eqb}
 use lib.Bits.{bitOr}
 use Rattle.masks.specs.Pick.{pick-keeps}
-use Rattle.masks.specs.Bits.{bitOf}
-use Rattle.masks.specs.Laws.{put-same}
 use Rattle.locks.specs.declared.Locks.{Locks}
 use Rattle.rules.specs.declared.Fault.{Fault}
 use Rattle.rules.specs.declared.Fault.the-variants.{Early, Lost, Illegal, Mismatch}
-use Rattle.rules.specs.declared.Mode.{Mode}
-use Rattle.rules.specs.declared.Config.{Config}
 use Rattle.rules.specs.declared.Fifo.{Fifo}
+use Rattle.rules.specs.declared.Buffers.{Buffers}
 use Rattle.rules.specs.declared.Control.{Control}
-use Rattle.rules.specs.Record.{withConfig, withGisr, withReceive, withTransmit}
+use Rattle.rules.specs.Record.{withConfig, withGisr, withReceive, withTransmit, withBuffers}
 use Rattle.rules.specs.Registers.{has, resetControl, emptyFifo, SYNEIF, ERRIF, OVRNIF, ILLPIF, WAKEIF, LOCK}
-use Rattle.rules.specs.Kinds.{isTransmit, isReceive, isLocked, isOldest, isLawful}
+use Rattle.rules.specs.Kinds.{isTransmit, isReceive, isLocked, isLawful}
 use Rattle.rules.specs.Flags.{writeRisr}
 use Rattle.rules.specs.Modes.{enter, leave, wake}
-use Rattle.rules.specs.Writes.{entersByLock, lockError, disarm, lock, releaseFifo, unlock, cfgAfter, writeLock, writeBufctl}
+use Rattle.rules.specs.Writes.{disarm, releaseFifo, unlock, writeBufctl}
 use Rattle.rules.specs.Bus.{raiseGisr, woken, synced, syncEvents, timedOut, lostEvents, faulted, raiseLast}
-use Rattle.rules.specs.Refusals.{newLock, notOldest}
+use Rattle.rules.specs.Refusals.{notOldest}
 use Rattle.controller.specs.View.{View}
 use Rattle.invariants.specs.Sound.{Sound, ModeSound}
 use Rattle.invariants.specs.ModeLaws.{remembered, forgotten, desynced, raised, gisr-written, RestingAt, resting, modes-by, awake, entered, lawful-same, silent, risr-silent, gisr-silent, events-modes}
 use Rattle.invariants.specs.Kept.{Kept, at, resetView}
-use Rattle.invariants.specs.KeptLaws2.{impossible, and-left, and-last, put-none, cfg-stays, Prepared, before-lock}
+use Rattle.invariants.specs.Tests.{impossible, and-left}
+use Rattle.invariants.specs.BitLaws.{put-none}
+use Rattle.invariants.specs.ControlWrite.{Prepared, prepared-kind, LockKept, controls-by, new-oldest}
 
 -- ---- a control write
 
--- before LOCK
-prepared-modes : (w : View) (n v : ℕ) (d : Control) → Prepared (w .control) n v d → ModeSound w → ModeSound (at w d)
-prepared-modes w n v d p m =
-    modes-by w
-    (λ j. record { init = p .mode j .init; slpak = p .mode j .slpak; slprq = p .mode j .slprq; synced = p .mode j .synced; events = p .events j })
+-- before LOCK: flags and arming stay in initialization, the layout outside it
+prepared-modes : (w : View) (n v : ℕ) (b : Buffers) → Prepared (w .control) n v b → ModeSound w → ModeSound (at w (withBuffers (w .control) b))
+prepared-modes w n v b p m =
+    let c = w .control in
+    modes-by w refl
     (λ i. let q = m .idle i in
-    record { iflg-none = p .iflg i ∙ q .iflg; abtak-none = p .abtak i ∙ q .abtak; armed-none = p .armed i ∙ q .armed; fifo-empty = p .fifo ∙ q .fifo })
-    (λ i.
-    lawful-same (w .control) d (ap (λ (g : Config). g .fsiz) (p .config))
-    (λ k h. ap (λ (x : ℕ). bitOf x k) (p .cfg) ∙ cfg-stays (w .control) n v k i h)
-    ∙ m .lawful i)
-    m
-
-lockError-modes : (w : View) (l : Locks) (c : Control) → ModeSound (at w c) → ModeSound (at w (lockError l c))
-unfolding lockError
-lockError-modes w l c m = pick-keeps (λ (d : Control). ModeSound (at w d)) (entersByLock l c) (λ p. entered w c) (λ p. m)
+    record {
+      iflg-none = p .init-iflg i ∙ q .iflg;
+      abtak-none = p .init-abtak i ∙ q .abtak;
+      armed-none = p .init-armed i ∙ q .armed;
+      fifo-empty = q .fifo;
+    })
+    (λ i. lawful-same c (withBuffers c b) refl (prepared-kind c n v b p i) ∙ m .lawful i) m
 
 module _ (w : View) (c : Control) (n : ℕ) (m : ModeSound (at w c)) where
   -- in initialization nothing is armed
@@ -79,54 +75,29 @@ module _ (w : View) (c : Control) (n : ℕ) (m : ModeSound (at w c)) where
       (m .lawful) m
 
   -- a FIFO buffer is locked outside initialization alone
-  lock-modes : (c .mode .init ≡ true → isTransmit c n ≡ false → isReceive c n ≡ false → ⊥) → ModeSound (at w (lock c n))
-  unfolding lock isLawful
-  lock-modes never =
-      pick-keeps (λ (d : Control). ModeSound (at w d)) (isTransmit c n)
-      (λ t. lockError-modes w (c .transmit) _ (transmit-modes _))
-      (λ t. pick-keeps (λ (d : Control). ModeSound (at w d)) (isReceive c n)
-      (λ r. lockError-modes w (c .receive) _ (receive-modes _))
-      (λ r. modes-by (at w c) refl (λ i. absurd (never i t r)) (m .lawful) m))
+  lock-modes : (v : ℕ) →
+      (has v LOCK ≡ true → isLocked c n ≡ false → isTransmit c n ≡ false → isReceive c n ≡ false → c .mode .init ≡ true → ⊥) →
+      LockKept (λ (d : Control). ModeSound (at w d)) c n v
+  unfolding isLawful
+  lock-modes v never =
+      record {
+        now = m;
+        enters = λ d q. entered w d;
+        transmits = λ u t. transmit-modes _;
+        receives = λ u t r. receive-modes _;
+        queues = λ a u t r. modes-by (at w c) refl (λ i. absurd (never a u t r i)) (m .lawful) m;
+        unlocks = unlock-modes;
+      }
 
-  writeLock-modes : (v : ℕ) →
-      (has v LOCK ≡ true → isLocked c n ≡ false → c .mode .init ≡ true → isTransmit c n ≡ false → isReceive c n ≡ false → ⊥) →
-      ModeSound (at w (writeLock c n v))
-  unfolding writeLock
-  writeLock-modes v never =
-      pick-keeps (λ (d : Control). ModeSound (at w d)) (has v LOCK)
-      (λ p. pick-keeps (λ (d : Control). ModeSound (at w d)) (isLocked c n) (λ l. m) (λ l. lock-modes (never p l)))
-      (λ p. unlock-modes)
-
--- a new lock on a FIFO buffer is on the oldest entry, which an empty FIFO doesn't have
-module _ (c : Control) (n v : ℕ) (h : n < 16) (d : Control) (p : Prepared c n v d) where
-  locked-same : isLocked d n ≡ isLocked c n
-  unfolding isLocked
-  locked-same = rw (p .receive, p .transmit, p .fifo)
-
-  transmit-after : isTransmit d n ≡ cfgAfter c n v
-  transmit-after = ap (λ (x : ℕ). bitOf x n) (p .cfg) ∙ put-same (c .buffers .cfg) n (cfgAfter c n v) h
-
-  below-size : isTransmit d n ≡ false → isReceive d n ≡ false → ltb n (c .config .fsiz) ≡ true
-  below-size t r =
-      ap (λ (g : Config). ltb n (g .fsiz)) (sym (p .config))
-      ∙ lt-ltb n (d .config .fsiz) (leb-false (d .config .fsiz) n (and-last (not (isTransmit d n)) (leb (d .config .fsiz) n) r (ap not t)))
-
-  never-empty : c .fifo ≡ emptyFifo → notOldest c n v ≡ false →
-      has v LOCK ≡ true → isLocked d n ≡ false → isTransmit d n ≡ false → isReceive d n ≡ false → ⊥
-  unfolding notOldest newLock isOldest
-  never-empty e o k l t r =
-      let free : isLocked c n ≡ false = sym locked-same ∙ l in
-      let cfg : cfgAfter c n v ≡ false = sym transmit-after ∙ t in
-      let old = not-false (isOldest c n) (simp (k, free, cfg, below-size t r) at o) in
-      impossible (ap (λ (q : Fifo). ltb 0 (q .count)) (sym e) ∙ and-left (ltb 0 (c .fifo .count)) (eqb n (c .fifo .oldest)) old)
-
+-- an empty FIFO has no oldest entry to lock
 bufctl-modes : (w : View) (n v : ℕ) → n < 16 → notOldest (w .control) n v ≡ false → ModeSound w →
     ModeSound (at w (writeBufctl (w .control) n v))
-unfolding writeBufctl
 bufctl-modes w n v h o m =
-    let p = before-lock (w .control) n v in
-    writeLock-modes w _ n (prepared-modes w n v _ p m) v
-    (λ k l i. never-empty (w .control) n v h _ p (m .idle (ap (λ (x : Mode). x .init) (sym (p .mode)) ∙ i) .fifo) o k l)
+    controls-by ModeSound w n v (λ b p.
+    lock-modes w (withBuffers (w .control) b) n (prepared-modes w n v b p m) v (λ a u t r i.
+    let entry = new-oldest (w .control) n v b p h o a u t r .0 in
+    let none : w .control .fifo .count ≡ 0 = ap (λ (q : Fifo). q .count) (m .idle i .fifo) in
+    omega arith))
 
 -- ---- all the rules
 

@@ -1,4 +1,5 @@
--- Laws on the facts of the modes: a remembered clear, and what a rule has to leave alone.
+-- Laws on the facts of the modes: a remembered clear of SYNLIF, what a rule has to leave alone, and the event flags. Most
+-- rules change little of what these facts read, so they are kept by one of these laws each.
 use mathlib.Core.Path.{_≡_, refl, sym, ap, ap₂, _∙_, subst}
 use Prim.Native.Nat.{ℕ, _-_, _<_}
 use mathlib.Core.Bool.{Bool, true, false, _&&_, _||_, not, and-true, and-false}
@@ -22,7 +23,7 @@ use Rattle.rules.specs.Modes.{enter}
 use Rattle.controller.specs.View.{View}
 use Rattle.invariants.specs.Sound.{ModeSound, Idle}
 use Rattle.invariants.specs.Kept.{at}
-use Rattle.invariants.specs.KeptLaws2.{impossible, and-left, and-right}
+use Rattle.invariants.specs.Tests.{impossible, and-left, and-right}
 
 -- ---- SYNLIF, bit 3 of the flags g
 

@@ -1,12 +1,11 @@
 -- Every session from reset: the record after it is sound, and no bus event changes a locked buffer.
 use mathlib.Core.Path.{_≡_, refl, sym, ap, _∙_}
 use Prim.Native.Nat.{ℕ, _+_, _<_, _≤_}
-use mathlib.Core.Bool.{Bool, true, false, _&&_, _||_, not, false≢true}
+use mathlib.Core.Bool.{Bool, true, false, _&&_, not, and-false, false≢true}
 use mathlib.Core.List.{List, [], _∷_}
 use native.Mathlib.Omega.{arith}
 use borrow.Author.Tests.{ne-eqb, lt-leb, ltb-true, ltb-false}
-use lib.ListN.{replicate}
-use lib.Dec.{eqb, ltb, leb}
+use lib.Dec.{eqb, ltb}
 use Rattle.masks.specs.Pick.{by-test}
 use Rattle.locks.specs.declared.Locks.{Locks}
 use Rattle.locks.specs.Pair.{inPair}
@@ -71,17 +70,13 @@ not-in-pair : (kind : ℕ → Bool) (l : Locks) (n : ℕ) → PairSound kind l �
 unfolding inPair
 not-in-pair kind l n p small other =
     let h : eqb n (l .holder) ≡ false =
-      ne-eqb n (l .holder) (λ e. false≢true (sym other ∙ ap kind e ∙ p .holder-kind (omega arith))) in
+    ne-eqb n (l .holder) (λ e. false≢true (sym other ∙ ap kind e ∙ p .holder-kind (omega arith))) in
     let c : eqb n (l .contender) ≡ false =
-      ne-eqb n (l .contender) (λ e. false≢true (sym other ∙ ap kind e ∙ p .contender-kind (omega arith))) in
+    ne-eqb n (l .contender) (λ e. false≢true (sym other ∙ ap kind e ∙ p .contender-kind (omega arith))) in
     simp (h, c)
 
 not-receive : (c : Control) (n : ℕ) → n < c .config .fsiz → isReceive c n ≡ false
-not-receive c n h = simp (lt-leb (c .config .fsiz) n h) (last (not (isTransmit c n)))
-  where
-    last : (t : Bool) → (t && false) ≡ false
-    last true = refl
-    last false = refl
+not-receive c n h = simp (lt-leb (c .config .fsiz) n h) (and-false (not (isTransmit c n)))
 
 -- with a lock there is an entry, and with room left the next place is behind it
 not-oldest : (w : View) → Sound w → w .control .fifo .count < w .control .config .fsiz → (t : Bool) → w .control .fifo .locked ≡ t →
@@ -106,10 +101,10 @@ next-free w s =
           let size : w .control .config .fsiz ≤ 16 = f .size-le in
           let small : w .control .fifo .next < 16 = omega arith in
           let rx : inPair (w .control .receive) (w .control .fifo .next) ≡ false =
-            not-in-pair (isReceive (w .control)) (w .control .receive) (w .control .fifo .next) (s .locks .receive) small (not-receive (w .control) (w .control .fifo .next) low) in
+          not-in-pair (isReceive (w .control)) (w .control .receive) (w .control .fifo .next) (s .locks .receive) small (not-receive (w .control) (w .control .fifo .next) low) in
           let tx : inPair (w .control .transmit) (w .control .fifo .next) ≡ false =
-            not-in-pair (isTransmit (w .control)) (w .control .transmit) (w .control .fifo .next) (s .locks .transmit) small
-              (lawful-low (w .control) (w .control .fifo .next) (s .modes .lawful normal) size low) in
+          not-in-pair (isTransmit (w .control)) (w .control .transmit) (w .control .fifo .next) (s .locks .transmit) small
+          (lawful-low (w .control) (w .control .fifo .next) (s .modes .lawful normal) size low) in
           simp (rx, tx) (not-oldest w s room (w .control .fifo .locked) refl);
     }
 

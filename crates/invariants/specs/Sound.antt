@@ -1,13 +1,11 @@
 -- What holds of every record that a session reaches from reset, as one record of facts about its public view: the control
--- state c and the buffers' heads.
+-- state and the buffers' heads.
 use mathlib.Core.Path.{_≡_}
 use Prim.Native.Nat.{ℕ, _+_, _≤_, _<_}
 use mathlib.Core.Bool.{Bool, true, false, _&&_, _||_}
-use mathlib.Core.List.{List}
 use lib.ListN.{length}
 use lib.Dec.{eqb, ltb, leb}
 use Rattle.locks.specs.declared.Locks.{Locks}
-use Rattle.contents.specs.Bytes.{Head}
 use Rattle.rules.specs.declared.Fifo.{Fifo}
 use Rattle.rules.specs.declared.Control.{Control}
 use Rattle.rules.specs.Registers.{has, SYNLIF, emptyFifo}
@@ -28,18 +26,20 @@ pub record LocksSound (w : View) : Type 0 where
   pub receive : PairSound (isReceive (w .control)) (w .control .receive)
   pub transmit : PairSound (isTransmit (w .control)) (w .control .transmit)
 
--- at most FSIZ entries from the oldest on, the next place behind the last of them, FSIZ following FSIZ − 1 by 0
-pub record FifoSound (w : View) : Type 0 where
-  pub size-le : w .control .config .fsiz ≤ 16
-  pub count-le : w .control .fifo .count ≤ w .control .config .fsiz
-  pub oldest-lt : 0 < w .control .config .fsiz → w .control .fifo .oldest < w .control .config .fsiz
-  pub next-lt : 0 < w .control .config .fsiz → w .control .fifo .next < w .control .config .fsiz
-  pub next-low : w .control .fifo .oldest + w .control .fifo .count < w .control .config .fsiz →
-      w .control .fifo .next ≡ w .control .fifo .oldest + w .control .fifo .count
-  pub next-high : w .control .config .fsiz ≤ w .control .fifo .oldest + w .control .fifo .count →
-      w .control .fifo .next + w .control .config .fsiz ≡ w .control .fifo .oldest + w .control .fifo .count
+-- a FIFO f of FSIZ places, FSIZ at most 16: at most FSIZ entries from the oldest on; the next place is behind the last of
+-- them, place 0 following place FSIZ − 1
+pub record RingSound (fsiz : ℕ) (f : Fifo) : Type 0 where
+  pub size-le : fsiz ≤ 16
+  pub count-le : f .count ≤ fsiz
+  pub oldest-lt : 0 < fsiz → f .oldest < fsiz
+  pub next-lt : 0 < fsiz → f .next < fsiz
+  pub next-low : f .oldest + f .count < fsiz → f .next ≡ f .oldest + f .count
+  pub next-high : fsiz ≤ f .oldest + f .count → f .next + fsiz ≡ f .oldest + f .count
   -- a FIFO lock only with an entry
-  pub lock-entry : w .control .fifo .locked ≡ true → 0 < w .control .fifo .count
+  pub lock-entry : f .locked ≡ true → 0 < f .count
+
+abbrev pub FifoSound : View → Type 0
+FifoSound w = RingSound (w .control .config .fsiz) (w .control .fifo)
 
 -- nothing of what entering initialization clears, but for the enables, which may be written there
 pub record Idle (c : Control) : Type 0 where
