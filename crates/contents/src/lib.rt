@@ -80,6 +80,13 @@ fn sent_size(len: u8) -> u8
     if len < 12 { 2 + len } else { 14 }
 }
 
+// The size of the contents' frame, from 2 to 14.
+pub fn frame_size(b: [u8; 14]) -> u8
+    ensures { λ r. ⌜ r ≡ length (frameOf (record { bytes = b })) ⌝ }
+{
+    sent_size(b[1])
+}
+
 // Writes the contents' frame over the room's first bytes and answers its size, from 2 to 14. A room of less than 14 bytes
 // stays as it is, and the answer is the same.
 pub fn send(b: [u8; 14], room: &mut [u8]) -> u8

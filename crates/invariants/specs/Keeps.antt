@@ -21,7 +21,7 @@ use Rattle.rules.specs.Registers.{has, between, registerAt, INITRQ, SLPRQ}
 use Rattle.rules.specs.Kinds.{isLocked, isLawful}
 use Rattle.rules.specs.Modes.{writeSleep, modeBy, writeMcr}
 use Rattle.rules.specs.Writes.{writeBufctl, written, windowMoves, writeMoves}
-use Rattle.rules.specs.Bus.{synced, dueKind, dueSync, lookup, toBuffer, fifoTakes, toFifo, raiseLast, found, received, offers, sendFrom, slotted}
+use Rattle.rules.specs.Bus.{synced, dueKind, dueSync, lookup, toBuffer, fifoTakes, toFifo, raiseLast, found, judged, received, offers, sendFrom, slotFor, slotted}
 use Rattle.rules.specs.Refusals.{refuses1, onlyInInit, refuses4, refuses5, refuses6, refuses7, refuses8, refuses9, refuses10, movedByFsiz, movedByCfg, notOldest, noLockLeft, refusal}
 use Rattle.rules.specs.Steps.{Step, reset, read, write, sync, syncDue, slot, frame, fault, timeout, frameIn}
 use Rattle.rules.specs.Plan.{headAt, Move, Plan}
@@ -212,7 +212,7 @@ module _ (P : View → Type 0) (w : View) (p : P w) (k : Kept P w) where
       (λ t. k .syncs (dueKind (w .control)) i s) (λ t. p)
 
   slot-kept : (i : ℕ) → w .control .mode .init ≡ false → Good [] (slotted (w .control) (w .heads) i)
-  unfolding slotted sendFrom headMoves
+  unfolding slotted slotFor sendFrom headMoves
   slot-kept i t =
       let n = highest (offers (w .control) (w .heads) i) 16 in
       pick-keeps (Good []) (not (w .control .mode .synced)) (λ u. p)
@@ -238,7 +238,7 @@ module _ (P : View → Type 0) (w : View) (p : P w) (k : Kept P w) where
       (λ l. rw e (k .stores i (getD f 1 0) t s n l))
 
   frame-kept : (good : Bool) (f : List ℕ) → w .control .mode .init ≡ false → Good f (received (w .control) (w .heads) good (getD f 0 0))
-  unfolding received found headMoves
+  unfolding received judged found headMoves
   frame-kept good f t =
       let i = getD f 0 0 in
       let n = lookup (w .control) (w .heads) i in

@@ -136,11 +136,14 @@ raiseLast c i = withMode c (withLast (c .mode) (max (c .mode .last) i))
 unfoldable pub found : Control → ℕ → ℕ → Plan
 found c i n = pick (ltb n 16) (toBuffer (raiseLast c i) n) (toFifo (raiseLast c i) i)
 
--- "unsynchronized, ignored. A bad verdict or identifier 0 sets ERRIF ('badframe')."
-unfoldable pub received : Control → List Head → Bool → ℕ → Plan
-received c hs good i =
+-- "unsynchronized, ignored. A bad verdict or identifier 0 sets ERRIF ('badframe')." The frame's buffer is n, or none.
+unfoldable pub judged : Control → Bool → ℕ → ℕ → Plan
+judged c good i n =
     pick (not (c .mode .synced)) (plain c Ignored)
-    (pick (not good || eqb i 0) (plain (raiseGisr c ERRIF) BadFrame) (found c i (lookup c hs i)))
+    (pick (not good || eqb i 0) (plain (raiseGisr c ERRIF) BadFrame) (found c i n))
+
+unfoldable pub received : Control → List Head → Bool → ℕ → Plan
+received c hs good i = judged c good i (lookup c hs i)
 
 -- ---- slots
 
@@ -159,9 +162,11 @@ sendFrom c i n =
     (record { control = withMode (sentFrom c n) (withLast (c .mode) i); moves = []; reply = send n })
 
 -- "unsynchronized, ignored. If i exceeds the last identifier and armed buffers carry i, the highest is sent [..]. If that
--- buffer is locked, 'heldback' and nothing changes. Otherwise 'notsent'."
-unfoldable pub slotted : Control → List Head → ℕ → Plan
-slotted c hs i =
-    let n = highest (offers c hs i) 16 in
+-- buffer is locked, 'heldback' and nothing changes. Otherwise 'notsent'." The highest such buffer is n, or none.
+unfoldable pub slotFor : Control → ℕ → ℕ → Plan
+slotFor c i n =
     pick (not (c .mode .synced)) (plain c Ignored)
     (pick (ltb (c .mode .last) i && ltb n 16) (sendFrom c i n) (plain c NotSent))
+
+unfoldable pub slotted : Control → List Head → ℕ → Plan
+slotted c hs i = slotFor c i (highest (offers c hs i) 16)

@@ -15,3 +15,6 @@ pub mod Hidden
 pub mod Unchanged
 pub mod Untouched
 pub mod Examples
+pub mod Code
+pub mod CodeLaws
+pub mod Sending

@@ -12,7 +12,7 @@ use Rattle.rules.specs.declared.Answer.{Answer}
 use Rattle.rules.specs.declared.Answer.the-variants.{Ok, Value, Stored, Queued, HeldOff, HeldBack, Sent, Pulse, Refused, Overrun, Unmatched, BadFrame, Ignored, Woke, NotSent}
 use Rattle.rules.specs.declared.Control.{Control}
 use Rattle.rules.specs.Kinds.{isLocked}
-use Rattle.rules.specs.Bus.{dueSync, lookup, toBuffer, fifoTakes, toFifo, raiseLast, found, received, offers, sendFrom, slotted}
+use Rattle.rules.specs.Bus.{dueSync, lookup, toBuffer, fifoTakes, toFifo, raiseLast, found, judged, received, offers, sendFrom, slotFor, slotted}
 use Rattle.rules.specs.Refusals.{refusal}
 use Rattle.rules.specs.Steps.{Step, reset, read, write, sync, syncDue, slot, frame, fault, timeout}
 use Rattle.rules.specs.Plan.{Reply, say, show, send, Plan, plain}
@@ -77,14 +77,14 @@ module _ (c : Control) where
       (λ t. pick-keeps (Still c) (leb (d .config .fsiz) (d .fifo .count)) (λ u. other _ refl) (λ u. other _ refl)) (λ t. other _ refl)
 
   frame-still : (hs : List Head) (good : Bool) (i : ℕ) → Still c (received c hs good i)
-  unfolding received found
+  unfolding received judged found
   frame-still hs good i =
       pick-keeps (Still c) (not (c .mode .synced)) (λ t. same c Ignored)
       (λ t. pick-keeps (Still c) (not good || eqb i 0) (λ u. other _ refl)
       (λ u. pick-keeps (Still c) (ltb (lookup c hs i) 16) (λ x. buffer-still (raiseLast c i) (lookup c hs i)) (λ x. fifo-still (raiseLast c i) i)))
 
   slot-still : (hs : List Head) (i : ℕ) → Still c (slotted c hs i)
-  unfolding slotted sendFrom
+  unfolding slotted slotFor sendFrom
   slot-still hs i =
       let n = highest (offers c hs i) 16 in
       pick-keeps (Still c) (not (c .mode .synced)) (λ t. same c Ignored)

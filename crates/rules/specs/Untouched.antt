@@ -22,7 +22,7 @@ use Rattle.rules.specs.Registers.{withFlag, LOCK, IFLG, ABTAK, IENA, CFG
 use Rattle.rules.specs.Kinds.{isTransmit, hasIena, hasIflg, hasAbtak, isLocked}
 use Rattle.rules.specs.Reads.{bufctl}
 use Rattle.rules.specs.Modes.{wake}
-use Rattle.rules.specs.Bus.{woken, synced, dueKind, dueSync, timedOut, faulted, lookup, toBuffer, fifoTakes, toFifo, raiseLast, found, received, offers, sendFrom, slotted}
+use Rattle.rules.specs.Bus.{woken, synced, dueKind, dueSync, timedOut, faulted, lookup, toBuffer, fifoTakes, toFifo, raiseLast, found, judged, received, offers, sendFrom, slotFor, slotted}
 use Rattle.rules.specs.Refusals.{refusal}
 use Rattle.rules.specs.Steps.{Step, reset, read, write, sync, syncDue, slot, frame, fault, timeout}
 use Rattle.rules.specs.Plan.{Move, store, Plan, plain}
@@ -114,14 +114,14 @@ module _ (c : Control) (n : ℕ) (small : n < 16) (locked : isLocked c n ≡ tru
       (λ t. record { same-bufctl = refl; avoided = none })
 
   frame-spares : (hs : List Head) (good : Bool) (i : ℕ) → c .mode .init ≡ false → Spares c n (received c hs good i)
-  unfolding received found bufctl isLocked
+  unfolding received judged found bufctl isLocked
   frame-spares hs good i o =
       pick-keeps (Spares c n) (not (c .mode .synced)) (λ t. same Ignored)
       (λ t. pick-keeps (Spares c n) (not good || eqb i 0) (λ u. record { same-bufctl = refl; avoided = none })
       (λ u. pick-keeps (Spares c n) (ltb (lookup c hs i) 16) (λ x. buffer-spares i (lookup c hs i)) (λ x. fifo-spares i o)))
 
   slot-spares : (hs : List Head) (i : ℕ) → Spares c n (slotted c hs i)
-  unfolding slotted sendFrom bufctl isLocked
+  unfolding slotted slotFor sendFrom bufctl isLocked
   slot-spares hs i =
       let m = highest (offers c hs i) 16 in
       pick-keeps (Spares c n) (not (c .mode .synced)) (λ t. same Ignored)

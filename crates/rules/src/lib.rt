@@ -1,4 +1,13 @@
 // The controller's control state, by concern: everything but the buffers' bytes.
+pub mod bits;
+pub mod kinds;
+pub mod flags;
+pub mod reads;
+mod modes;
+pub mod writes;
+mod bus;
+mod refusals;
+
 use filter::Filter;
 use locks::Locks;
 
@@ -124,4 +133,18 @@ pub struct Control {
     pub receive: Locks,
     pub transmit: Locks,
     pub buffers: Buffers,
+}
+
+// What the rules make of a bus step: an answer alone, a frame to store in a buffer with its answer, or a buffer's frame to
+// send.
+pub enum Verdict {
+    Say(Answer),
+    Store(u8, Answer),
+    Send(u8),
+}
+
+// The next control state, and the verdict.
+pub struct Ruling {
+    pub next: Control,
+    pub verdict: Verdict,
 }

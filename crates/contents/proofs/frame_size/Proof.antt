@@ -1,0 +1,24 @@
+use mathlib.Core.Path.{sym, _∙_}
+use Rattle.contents.specs.declared.Contents.{Contents}
+use Rattle.contents.specs.Payload.{frame-size}
+use borrow.Author.Needs.{needs}
+use Rattle.contents.proofs.frame_size.Statement.{statement}
+use Rattle.contents.proofs.frame_size.Tie as tie
+use Rattle.contents.proofs.frame_size.Reads as reads
+use Rattle.contents.proofs.frame_size.Lts as lts
+use Rattle.contents.proofs.sent_size.Reads as sent-size-reads
+
+-- src/lib.rt:87:15
+array-read-sent-size : tie.Need-array-read-sent-size
+array-read-sent-size c = search needs
+
+-- src/lib.rt:87:5
+sent-size-requires : tie.Need-sent-size-requires
+sent-size-requires c κs = search needs
+
+-- src/lib.rt:84:1
+returns : tie.Need-returns
+returns c = c .sent-size .ensures ∙ sym (frame-size (record { bytes = c .before .args .t1 }))
+
+pub frame-size-spec : {M : Type 1} → statement M
+frame-size-spec = tie.close (tie.spec array-read-sent-size sent-size-requires returns)
