@@ -4,3 +4,7 @@ pub mod View
 pub mod Demand3
 pub mod Unchanged
 pub mod Untouched
+pub mod Code
+pub mod CodeLaws
+pub mod RowLaws
+pub mod Runs

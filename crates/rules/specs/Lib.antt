@@ -14,7 +14,6 @@ pub mod Rules
 pub mod Hidden
 pub mod Unchanged
 pub mod Untouched
-pub mod Examples
 pub mod Code
 pub mod CodeLaws
 pub mod Sending

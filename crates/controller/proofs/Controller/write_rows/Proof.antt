@@ -1,0 +1,45 @@
+use mathlib.Core.Path.{ap}
+use mathlib.Core.List.{List}
+use borrow.Author.Needs.{needs}
+use Rattle.contents.specs.declared.Contents.{Contents}
+use Rattle.controller.specs.Code.{writtenRows}
+use Rattle.controller.proofs.RegisterLaws.{other-rows}
+use Rattle.controller.proofs.Controller.write_rows.Statement.{statement}
+use Rattle.controller.proofs.Controller.write_rows.Tie as tie
+
+enum-known-register : tie.Need-enum-known-register
+enum-known-register c = search needs
+
+write-window-requires : tie.Need-write-window-requires
+write-window-requires c κs = search needs
+
+enum-known-register-2 : tie.Need-enum-known-register-2
+enum-known-register-2 c = search needs
+
+write-window-requires-2 : tie.Need-write-window-requires-2
+write-window-requires-2 c κs = search needs
+
+returns : tie.Need-returns
+unfolding writtenRows
+returns c = rw (c .before .before .register .given .1) (c .write-window .ensures)
+
+returns-2 : tie.Need-returns-2
+unfolding writtenRows
+returns-2 c = rw (c .before .before .register2 .given .1) (c .write-window2 .ensures)
+
+returns-3 : tie.Need-returns-3
+returns-3 c =
+    let start = c .before .before .args in
+    ap (λ (rows : List Contents). record { control = start .self .control; rows = rows }) (other-rows (start .self) (start .register) (start .v) (c .match .keys3))
+
+pub write-rows-spec : {M : Type 1} → statement M
+write-rows-spec =
+    tie.close
+    (tie.spec
+    enum-known-register
+    write-window-requires
+    enum-known-register-2
+    write-window-requires-2
+    returns
+    returns-2
+    returns-3)

@@ -1,0 +1,88 @@
+-- Laws of the bus events' proofs: a frame's size, a frame over a buffer's bytes, and the bytes of a buffer past the last.
+use Prim.Native.Nat.{ℕ, _+_, _-_, _≤_, _<_}
+use mathlib.Core.Bool.{Bool, true, false, not}
+use mathlib.Core.List.{List, []}
+use mathlib.Core.Path.{_≡_, refl, sym, ap, _∙_}
+use native.Mathlib.Omega.{arith}
+use borrow.Author.Tests.{lt-ltb, le-ltb, ltb-true, ltb-false, eqb-true, not-true, not-false, ne-eqb}
+use lib.Dec.{eqb, ltb}
+use lib.ListN.{getD, take, drop, length, replicate, List·getD-eq-default, drop-of-length-le, length-drop}
+use lib.Seq.{take-all}
+use Rattle.masks.specs.Pick.{pick-true, pick-false, by-test}
+use Rattle.contents.specs.declared.Contents.{Contents}
+use Rattle.contents.specs.Bytes.{noContents, cut, storeFrame, bytesFrom, frameOf, fillRoom}
+use Rattle.contents.specs.Room.{roomAfter, room-filled}
+use Rattle.rules.specs.Refusals.{refuses11}
+use Rattle.controller.specs.Carry.{rowAt}
+use Rattle.controller.specs.Code.{rowBytes}
+
+-- ---- a frame's size
+
+not-not : (t : Bool) → t ≡ not (not t)
+not-not true = refl
+not-not false = refl
+
+pub sized : (f : List ℕ) → eqb (length f) (2 + cut (getD f 1 0)) ≡ not (refuses11 f)
+unfolding refuses11
+sized f = not-not (eqb (length f) (2 + cut (getD f 1 0)))
+
+-- r being the answer of `well_sized`
+pub size-refused : (f : List ℕ) (r : Bool) → r ≡ not (refuses11 f) → not r ≡ true → refuses11 f ≡ true
+size-refused f r e h = not-false (refuses11 f) (sym e ∙ not-true r h)
+
+pub size-taken : (f : List ℕ) (r : Bool) → r ≡ not (refuses11 f) → not r ≡ false → refuses11 f ≡ false
+size-taken f r e h = not-true (refuses11 f) (sym e ∙ not-false r h)
+
+pub sized-long : (f : List ℕ) → refuses11 f ≡ false → 2 ≤ length f
+unfolding refuses11
+sized-long f e = let h = eqb-true (length f) (2 + cut (getD f 1 0)) (not-false _ e) in omega arith
+
+pub not-sized : (f : List ℕ) → length f < 2 → false ≡ not (refuses11 f)
+not-sized f h = sym (ne-eqb (length f) (2 + cut (getD f 1 0)) (λ e. omega arith)) ∙ sized f
+
+-- ---- a frame's bytes over a buffer's
+
+module _ (b f : List ℕ) where
+  -- a slice with no data part
+  pub store-short : (i l : ℕ) → i ≡ getD f 0 0 → l ≡ getD f 1 0 → length f < 2 →
+      storeFrame (record { bytes = b }) i l [] .bytes ≡ storeFrame (record { bytes = b }) (getD f 0 0) (getD f 1 0) (drop 2 f) .bytes
+  store-short i l p q h = simp (p, q, drop-of-length-le f {i = 2} (omega arith))
+
+  -- the data part of a longer one is the slice from byte 2 on
+  pub store-rest : storeFrame (record { bytes = b }) (getD f 0 0) (getD f 1 0) (take (length f - 2) (drop 2 f)) .bytes
+      ≡ storeFrame (record { bytes = b }) (getD f 0 0) (getD f 1 0) (drop 2 f) .bytes
+  store-rest =
+      ap (λ (d : List ℕ). storeFrame (record { bytes = b }) (getD f 0 0) (getD f 1 0) d .bytes)
+      (take-all (length f - 2) (drop 2 f) (let h = length-drop 2 f in omega arith))
+
+-- ---- the bytes of buffer n
+
+module _ (rows : List Contents) (n : ℕ) where
+  pub bytes-in : n < 16 → rowAt rows n .bytes ≡ rowBytes rows n
+  unfolding rowBytes
+  bytes-in h = sym (pick-true (ltb n 16) _ _ (lt-ltb n 16 h))
+
+  pub bytes-out : 16 ≤ n → replicate 14 0 ≡ rowBytes rows n
+  unfolding rowBytes
+  bytes-out h = sym (pick-false (ltb n 16) _ _ (le-ltb n 16 h))
+
+no-frame : frameOf (record { bytes = replicate 14 0 }) ≡ frameOf noContents
+unfolding frameOf bytesFrom
+no-frame = refl
+
+-- the frame of buffer n, also past the last
+pub frame-row : (rows : List Contents) (n : ℕ) → length rows ≡ 16 → frameOf (record { bytes = rowBytes rows n }) ≡ frameOf (rowAt rows n)
+frame-row rows n l = by-test (ltb n 16) (λ t. same (bytes-in rows n (ltb-true n 16 t))) (λ t. past (ltb-false n 16 t))
+  where
+    same : {b : List ℕ} → b ≡ rowBytes rows n → frameOf (record { bytes = rowBytes rows n }) ≡ frameOf (record { bytes = b })
+    same e = ap (λ (b : List ℕ). frameOf (record { bytes = b })) (sym e)
+
+    past : 16 ≤ n → frameOf (record { bytes = rowBytes rows n }) ≡ frameOf (rowAt rows n)
+    past h = same (bytes-out rows n h) ∙ no-frame ∙ ap frameOf (sym (List·getD-eq-default rows noContents (omega arith)))
+
+-- the room after the bytes b of buffer n were sent into it
+pub room-sent : (rows : List Contents) (room : List ℕ) (n : ℕ) → length rows ≡ 16 → 14 ≤ length room → (b : List ℕ) → b ≡ rowBytes rows n →
+    roomAfter (record { bytes = b }) room ≡ fillRoom (frameOf (rowAt rows n)) room
+room-sent rows room n l h b e =
+    room-filled (record { bytes = b }) room h
+    ∙ ap (λ (f : List ℕ). fillRoom f room) (ap (λ (x : List ℕ). frameOf (record { bytes = x })) e ∙ frame-row rows n l)

@@ -1,0 +1,102 @@
+-- Laws of the register calls.
+use Prim.Native.Nat.{ℕ, _≤_}
+use mathlib.Core.Path.{_≡_, refl, sym, ap, _∙_}
+use mathlib.Core.List.{List, [], _∷_}
+use native.Mathlib.Omega.{arith}
+use lib.ListN.{length, getD, length-map, List·getD-eq-default}
+use lib.Seq.{set-out}
+use types.Run.{OneOf, miss}
+use mir.Val.{Val}
+use denote.Shadow.{shadow}
+use denote.Struct.Declared.{row}
+use denote.Enum.Declared.{tagOf}
+use Rattle.contents.proofs.Contents.{the-type as the-contents}
+use Rattle.contents.specs.declared.Contents.{Contents}
+use Rattle.contents.specs.Bytes.{noContents}
+use Rattle.rules.proofs.Register.{the-type as the-register}
+use Rattle.rules.specs.declared.Register.{Register}
+use Rattle.rules.specs.declared.Register.the-variants.{Mcr, Fsizr, Tcr1, Tcr2, Tcr3, Risr, Gisr, Rier, Gier, Rivec, Tivec, Fidac, Fidmr, Mvr, Pctlbf, Buflock, Fidrj, Fidrmr, TransmitWindow, ReceiveWindow, FifoWindow, Bufctl, Reserved}
+use Rattle.rules.specs.Reads.{valueOf}
+use Rattle.controller.specs.declared.Controller.{Controller}
+use Rattle.controller.specs.Carry.{rowAt}
+use Rattle.controller.specs.Code.{windowByte, registerValue, writePlace, writeWindow, writtenRows}
+use Rattle.controller.proofs.Controller.{the-type as the-controller}
+
+-- ---- a controller that the code holds has sixteen rows
+
+pub sixteen-rows : (c : Controller) (vs : List Val) → shadow (row the-controller .own c vs) → length (c .rows) ≡ 16
+sixteen-rows c vs good = sym (length-map (c .rows) (the-contents .to)) ∙ good .1 .1 .1 .0 .1 .0 .1
+
+-- ---- a window with no holder
+
+module _ (rows : List Contents) (n p : ℕ) (sixteen : length rows ≡ 16) (none : 16 ≤ n) where
+  pub none-read : windowByte rows n p ≡ 0
+  unfolding windowByte
+  none-read =
+      let past : length rows ≤ n = omega arith in
+      ap (λ (b : Contents). getD (b .bytes) p 0) (List·getD-eq-default rows noContents past)
+
+  pub none-written : (v : ℕ) → writeWindow rows n p v ≡ rows
+  unfolding writeWindow
+  none-written v = set-out rows n (writePlace (rowAt rows n) p v) (omega arith)
+
+-- ---- the registers that have no arm of their own, by their places in the declaration
+
+abbrev allButWindows : List ℕ
+allButWindows = 0 ∷ 1 ∷ 2 ∷ 3 ∷ 4 ∷ 5 ∷ 6 ∷ 7 ∷ 8 ∷ 9 ∷ 10 ∷ 11 ∷ 12 ∷ 13 ∷ 14 ∷ 15 ∷ 16 ∷ 17 ∷ 21 ∷ 22 ∷ []
+
+abbrev allButWritable : List ℕ
+allButWritable = 0 ∷ 1 ∷ 2 ∷ 3 ∷ 4 ∷ 5 ∷ 6 ∷ 7 ∷ 8 ∷ 9 ∷ 10 ∷ 11 ∷ 12 ∷ 13 ∷ 14 ∷ 15 ∷ 16 ∷ 17 ∷ 20 ∷ 21 ∷ 22 ∷ []
+
+module _ (c : Controller) where
+  pub other-value : (r : Register) → OneOf allButWindows (tagOf the-register r) → valueOf (c .control) r ≡ registerValue c r
+  unfolding registerValue
+  other-value Mcr h = refl
+  other-value Fsizr h = refl
+  other-value Tcr1 h = refl
+  other-value Tcr2 h = refl
+  other-value Tcr3 h = refl
+  other-value Risr h = refl
+  other-value Gisr h = refl
+  other-value Rier h = refl
+  other-value Gier h = refl
+  other-value Rivec h = refl
+  other-value Tivec h = refl
+  other-value Fidac h = refl
+  other-value Fidmr h = refl
+  other-value Mvr h = refl
+  other-value Pctlbf h = refl
+  other-value Buflock h = refl
+  other-value Fidrj h = refl
+  other-value Fidrmr h = refl
+  other-value (TransmitWindow p) h = absurd (miss allButWindows 18 tt h)
+  other-value (ReceiveWindow p) h = absurd (miss allButWindows 19 tt h)
+  other-value (FifoWindow p) h = absurd (miss allButWindows 20 tt h)
+  other-value (Bufctl n) h = refl
+  other-value Reserved h = refl
+
+  pub other-rows : (r : Register) (v : ℕ) → OneOf allButWritable (tagOf the-register r) → c .rows ≡ writtenRows c r v
+  unfolding writtenRows
+  other-rows Mcr v h = refl
+  other-rows Fsizr v h = refl
+  other-rows Tcr1 v h = refl
+  other-rows Tcr2 v h = refl
+  other-rows Tcr3 v h = refl
+  other-rows Risr v h = refl
+  other-rows Gisr v h = refl
+  other-rows Rier v h = refl
+  other-rows Gier v h = refl
+  other-rows Rivec v h = refl
+  other-rows Tivec v h = refl
+  other-rows Fidac v h = refl
+  other-rows Fidmr v h = refl
+  other-rows Mvr v h = refl
+  other-rows Pctlbf v h = refl
+  other-rows Buflock v h = refl
+  other-rows Fidrj v h = refl
+  other-rows Fidrmr v h = refl
+  other-rows (TransmitWindow p) v h = absurd (miss allButWritable 18 tt h)
+  other-rows (ReceiveWindow p) v h = absurd (miss allButWritable 19 tt h)
+  other-rows (FifoWindow p) v h = refl
+  other-rows (Bufctl n) v h = refl
+  other-rows Reserved v h = refl

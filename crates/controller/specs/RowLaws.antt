@@ -1,0 +1,39 @@
+-- The searches over the buffers' bytes are those over their heads.
+use mathlib.Core.Path.{_≡_, refl, ap}
+use Prim.Native.Nat.{ℕ}
+use mathlib.Core.Bool.{Bool, _&&_, not}
+use mathlib.Core.List.{List}
+use native.Mathlib.Omega.{arith}
+use lib.ListN.{getD}
+use lib.Dec.{eqb}
+use Rattle.masks.specs.Bits.{maskOf, highest}
+use Rattle.masks.specs.Laws.{bit-mask, same-mask}
+use Rattle.masks.specs.Search.{lowest-ext, highest-ext}
+use Rattle.contents.specs.declared.Contents.{Contents}
+use Rattle.rows.specs.Search.{carriesAt, namedAt, lowestWith, highestWith, namedOf}
+use Rattle.rules.specs.declared.Control.{Control}
+use Rattle.rules.specs.Kinds.{isReceive}
+use Rattle.rules.specs.Plan.{headAt}
+use Rattle.rules.specs.Bus.{receives, lookup, offers}
+use Rattle.rules.specs.Code.{isNamed}
+use Rattle.controller.specs.Carry.{heads, rowAt}
+use Rattle.controller.specs.View.{head-at}
+
+-- the identifier in the head is that in the bytes
+ident-same : (rows : List Contents) (n : ℕ) → headAt (heads rows) n .ident ≡ getD (rowAt rows n .bytes) 0 0
+ident-same rows n = ap (λ h. h .ident) (head-at rows n)
+
+pub lookup-rows : (c : Control) (rows : List Contents) (m i : ℕ) → m ≡ maskOf (isReceive c) → lowestWith rows m i ≡ lookup c (heads rows) i
+unfolding lowestWith lookup carriesAt receives
+lookup-rows c rows m i e =
+    lowest-ext (carriesAt rows m i) (receives c (heads rows) i) 0 16 refl
+    (λ n h. simp (e, bit-mask (isReceive c) n h, ident-same rows n))
+
+pub offers-rows : (c : Control) (rows : List Contents) (i : ℕ) → highestWith rows (c .buffers .armed) i ≡ highest (offers c (heads rows) i) 16
+unfolding highestWith carriesAt offers
+offers-rows c rows i =
+    highest-ext (carriesAt rows (c .buffers .armed) i) (offers c (heads rows) i) 16 (omega arith) (λ n h. simp (ident-same rows n))
+
+pub named-rows : (rows : List Contents) → namedOf rows ≡ maskOf (isNamed (heads rows))
+unfolding namedOf namedAt isNamed
+named-rows rows = same-mask (namedAt rows) (isNamed (heads rows)) (λ n h. simp (ident-same rows n))

@@ -1,0 +1,220 @@
+// The bus events, and the five interrupt lines.
+ghost use mathlib.Core.Path.{_≡_};
+ghost use mathlib.Core.Bool.{not};
+ghost use Prim.Native.Nat.{_≤_};
+ghost use lib.ListN.{getD, drop, length};
+ghost use Rattle.contents.specs.Bytes.{storeFrame};
+ghost use Rattle.rules.specs.Refusals.{refuses11};
+ghost use Rattle.rules.specs.Bus.{lookup, offers};
+ghost use Rattle.masks.specs.Bits.{highest, maskOf};
+ghost use Rattle.rules.specs.Code.{isNamed};
+ghost use Rattle.rules.specs.Flags.{linesOf};
+ghost use Rattle.rules.specs.Steps.Step.{sync, syncDue, slot, frame, fault, timeout};
+ghost use Rattle.controller.specs.Carry.{heads};
+ghost use Rattle.controller.specs.Session.{stepOf};
+ghost use Rattle.controller.specs.Code.{doneOf, storedRow, rowBytes, ruled, roomBy};
+use crate::Controller;
+use crate::Done;
+use contents::Contents;
+use rules::Answer;
+use rules::Fault;
+use rules::Ruling;
+use rules::SyncKind;
+use rules::Verdict;
+
+// The slice has 2 + min(12, the length byte's low four bits) bytes.
+fn well_sized(f: &[u8]) -> bool
+    ensures { λ r. ⌜ r ≡ not (refuses11 (now (f .entry))) ⌝ }
+{
+    if f.len() < 2 {
+        return false;
+    }
+    f.len() == 2 + contents::cut(f[1]) as usize
+}
+
+// Byte k of a slice, 0 past its end.
+fn byte_or_zero(f: &[u8], k: usize) -> u8
+    ensures { λ r. ⌜ r ≡ getD (now (f .entry)) k 0 ⌝ }
+{
+    if k < f.len() {
+        return f[k];
+    }
+    0
+}
+
+// A frame's bytes over a buffer's: its data part goes on as it stands.
+fn store_frame(b: [u8; 14], f: &[u8]) -> [u8; 14]
+    ensures { λ r. ⌜ r ≡ storeFrame (record { bytes = b }) (getD (now (f .entry)) 0 0) (getD (now (f .entry)) 1 0) (drop 2 (now (f .entry))) .bytes ⌝ }
+{
+    if f.len() < 2 {
+        return contents::store(b, byte_or_zero(f, 0), byte_or_zero(f, 1), b"");
+    }
+    contents::store(b, f[0], f[1], &f[2..])
+}
+
+impl Controller {
+    // The five interrupt lines: 4 FIFO, 3 receive, 2 sync, 1 XSYNC, 0 general.
+    pub fn lines(self) -> u8
+        ensures { λ r. ⌜ r ≡ linesOf (self .control) ⌝ }
+    {
+        let c = self.control;
+        c.lines()
+    }
+
+    // The lowest dedicated receive buffer with identifier i, 16 for none.
+    fn lookup(self, i: u8) -> u8
+        ensures { λ r. ⌜ r ≡ lookup (self .control) (heads (self .rows)) i ⌝ }
+    {
+        let c = self.control;
+        let r = self.rows;
+        rows::lowest_with(r, c.receivers(), i)
+    }
+
+    // The highest armed buffer with identifier i, 16 for none.
+    fn offering(self, i: u8) -> u8
+        ensures { λ r. ⌜ r ≡ highest (offers (self .control) (heads (self .rows)) i) 16 ⌝ }
+    {
+        let c = self.control;
+        let r = self.rows;
+        rows::highest_with(r, c.buffers.armed, i)
+    }
+
+    // The buffers with an identifier.
+    fn named(self) -> u16
+        ensures { λ r. ⌜ r ≡ maskOf (isNamed (heads (self .rows))) ⌝ }
+    {
+        let r = self.rows;
+        rows::named(r)
+    }
+
+    // The fourteen bytes of buffer n, zeros past the last.
+    pub fn contents_of(self, n: u8) -> [u8; 14]
+        ensures { λ r. ⌜ r ≡ rowBytes (self .rows) n ⌝ }
+    {
+        if 16 <= n {
+            return [0u8; 14];
+        }
+        let i = n as usize;
+        let row = self.rows[i];
+        row.bytes
+    }
+
+    // The frame f stored in buffer n.
+    fn with_frame(self, n: u8, f: &[u8]) -> Controller
+        ensures { λ r. ⌜ r ≡ record { control = self .control; rows = storedRow (self .rows) n (now (f .entry)) } ⌝ }
+    {
+        if 16 <= n {
+            return self;
+        }
+        let i = n as usize;
+        let row = self.rows[i];
+        let b = row.bytes;
+        let w = store_frame(b, f);
+        let mut next = self;
+        next.rows[i] = Contents { bytes: w };
+        next
+    }
+
+    // A ruling carried out, the step's frame being f.
+    fn ruled(self, r: Ruling, f: &[u8]) -> Done
+        ensures { λ d. ⌜ d ≡ ruled self (now (f .entry)) r ⌝ }
+    {
+        let control = r.next;
+        let verdict = r.verdict;
+        let mut next = self;
+        next.control = control;
+        match verdict {
+            Verdict::Say(a) => Done {
+                next: next,
+                answer: a,
+            },
+            Verdict::Store(n, a) => Done {
+                next: next.with_frame(n, f),
+                answer: a,
+            },
+            Verdict::Send(n) => Done {
+                next: next,
+                answer: Answer::Sent(contents::frame_size(self.contents_of(n))),
+            },
+        }
+    }
+
+    // The room after a verdict: a sent frame fills its first bytes.
+    fn fill(self, verdict: Verdict, room: &mut [u8])
+        requires { ⌜ 14 ≤ length (now room) ⌝ }
+        ensures { λ _. ⌜ now (room .exit) ≡ roomBy (self .rows) (now (room .entry)) verdict ⌝ }
+    {
+        match verdict {
+            Verdict::Say(_) => {}
+            Verdict::Store(_, _) => {}
+            Verdict::Send(n) => {
+                contents::send(self.contents_of(n), room);
+            }
+        }
+    }
+
+    // A sync of a kind.
+    pub fn sync(self, k: SyncKind) -> Done
+        ensures { λ r. ⌜ r ≡ doneOf (stepOf self (sync k)) ⌝ }
+    {
+        let c = self.control;
+        self.ruled(c.on_sync(k, self.named()), b"")
+    }
+
+    // A sync due.
+    pub fn sync_due(self) -> Done
+        ensures { λ r. ⌜ r ≡ doneOf (stepOf self syncDue) ⌝ }
+    {
+        let c = self.control;
+        self.ruled(c.on_due(self.named()), b"")
+    }
+
+    // A frame: its verdict and its bytes.
+    pub fn frame(self, good: bool, f: &[u8]) -> Done
+        ensures { λ r. ⌜ r ≡ doneOf (stepOf self (frame good (now (f .entry)))) ⌝ }
+    {
+        if !well_sized(f) {
+            return Done {
+                next: self,
+                answer: Answer::Refused(11),
+            };
+        }
+        let i = f[0];
+        let c = self.control;
+        self.ruled(c.on_frame(good, i, self.lookup(i)), f)
+    }
+
+    // A fault of the bus.
+    pub fn fault(self, k: Fault) -> Done
+        ensures { λ r. ⌜ r ≡ doneOf (stepOf self (fault k)) ⌝ }
+    {
+        let c = self.control;
+        self.ruled(c.on_fault(k), b"")
+    }
+
+    // The alarm timeout.
+    pub fn timeout(self) -> Done
+        ensures { λ r. ⌜ r ≡ doneOf (stepOf self timeout) ⌝ }
+    {
+        let c = self.control;
+        self.ruled(c.on_timeout(), b"")
+    }
+
+    // Slot i. A sent frame fills the first bytes of the room, and the rest stays, as the whole room does on any other answer.
+    pub fn slot(self, i: u8, room: &mut [u8]) -> Done
+        ensures { λ r. ⌜ r ≡ doneOf (stepOf self (slot i (now (room .entry)))) ⌝ }
+        ensures { λ _. ⌜ now (room .exit) ≡ stepOf self (slot i (now (room .entry))) .room ⌝ }
+    {
+        if room.len() < 14 {
+            return Done {
+                next: self,
+                answer: Answer::Refused(12),
+            };
+        }
+        let c = self.control;
+        let r = c.on_slot(i, self.offering(i));
+        let verdict = r.verdict;
+        self.fill(verdict, room);
+        self.ruled(r, b"")
+    }
+}

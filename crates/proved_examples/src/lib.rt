@@ -1,0 +1,1 @@
+// Document 01's proved examples: one table and one statement, in specs/.
