@@ -17,10 +17,16 @@ fn hex(v: u8) {
 }
 
 fn hexes(bytes: &[u8]) {
-    let mut at = 0;
-    while at < bytes.len() {
+    for at in 0..bytes.len() {
         hex(bytes[at]);
-        at += 1;
+    }
+}
+
+// The first k bytes.
+fn first(bytes: &[u8], k: u8) {
+    let n = k as usize;
+    if n <= bytes.len() {
+        hexes(&bytes[..n]);
     }
 }
 
@@ -67,12 +73,7 @@ fn detail(answer: Answer, room: &[u8]) {
         Answer::Queued(n) => hex(n),
         Answer::HeldOff(n) => hex(n),
         Answer::HeldBack(n) => hex(n),
-        Answer::Sent(k) => {
-            let n = k as usize;
-            if n <= room.len() {
-                hexes(&room[..n]);
-            }
-        }
+        Answer::Sent(k) => first(room, k),
         Answer::Pulse(k) => letter(k),
         Answer::Refused(r) => hex(r),
         _ => put(b"-"),
@@ -163,34 +164,35 @@ pub fn bad_frame(c: Controller, bytes: &[u8]) -> Controller {
     report(c.frame(false, bytes), b"")
 }
 
-// A slot with a room of fourteen bytes and six behind them, all EE, whose content is printed where a frame was sent.
-pub fn slot(c: Controller, i: u8) -> Controller {
-    let mut room = [0xEEu8; 20];
+// A slot with a lent room, whose content is printed after it.
+fn slot_in(c: Controller, i: u8, room: &mut [u8]) -> Controller {
     put(b"T ");
     hex(i);
-    let d = c.slot(i, &mut room);
-    let next = report(d, &room);
+    let d = c.slot(i, room);
+    let next = report(d, room);
     put(b"room ");
-    hexes(&room);
+    hexes(room);
     put(b"\n");
     next
 }
 
-// A slot with a room of n bytes, at most 20.
-pub fn short_slot(c: Controller, i: u8, n: u8) -> Controller {
+// A room of twenty bytes, six more than a frame can fill, all EE.
+pub fn slot(c: Controller, i: u8) -> Controller {
     let mut room = [0xEEu8; 20];
-    put(b"T ");
-    hex(i);
-    put(b" room of ");
-    hex(n);
-    let k = n as usize;
-    if 20 < k {
-        return c;
-    }
-    let d = c.slot(i, &mut room[..k]);
-    let next = report(d, &room);
-    put(b"room ");
-    hexes(&room);
-    put(b"\n");
-    next
+    slot_in(c, i, &mut room)
+}
+
+pub fn slot_with_14(c: Controller, i: u8) -> Controller {
+    let mut room = [0xEEu8; 14];
+    slot_in(c, i, &mut room)
+}
+
+pub fn slot_with_13(c: Controller, i: u8) -> Controller {
+    let mut room = [0xEEu8; 13];
+    slot_in(c, i, &mut room)
+}
+
+pub fn slot_with_1(c: Controller, i: u8) -> Controller {
+    let mut room = [0xEEu8; 1];
+    slot_in(c, i, &mut room)
 }

@@ -2,6 +2,10 @@
 use crate::bench::*;
 use controller::Controller;
 
+fn four_frames(c: Controller) -> Controller {
+    frame(frame(frame(frame(c, b"\x01\x00"), b"\x01\x00"), b"\x01\x00"), b"\x01\x00")
+}
+
 fn whole_fifo() {
     let mut c = session(b"FSIZ 16");
     c = write(c, 0x01, 0x10);
@@ -13,11 +17,8 @@ fn whole_fifo() {
     c = write(c, 0x00, 0x00);
     c = write(c, 0x09, 0x40);
     c = sync(c);
-    let mut k: u8 = 0;
-    while k < 17 {
-        c = frame(c, b"\x01\x00");
-        k += 1;
-    }
+    c = four_frames(four_frames(four_frames(four_frames(c))));
+    c = frame(c, b"\x01\x00");
     c = read(c, 0x07);
     c = write(c, 0x5F, 0x10);
     c = write(c, 0x50, 0x10);
@@ -38,22 +39,27 @@ fn no_fifo() {
     read(c, 0x06);
 }
 
-// Every buffer becomes a transmit buffer with its number and 16 as identifier.
-fn all_cfg(c: Controller) -> Controller {
+// Buffer n becomes a transmit buffer with its number and 16 as identifier.
+fn make_transmit(c: Controller, n: u8) -> Controller {
     let mut b = c;
-    let mut n: u8 = 0;
-    while n < 16 {
+    if n < 16 {
         b = write(b, 0x50 + n, 0xD0);
         b = write(b, 0x20, 0x10 + n);
         b = write(b, 0x50 + n, 0xC0);
-        n += 1;
     }
     b
 }
 
+fn four_transmit(c: Controller, n: u8) -> Controller {
+    if 12 < n {
+        return c;
+    }
+    make_transmit(make_transmit(make_transmit(make_transmit(c, n), n + 1), n + 2), n + 3)
+}
+
 fn all_transmit() {
     let mut c = session(b"all transmit");
-    c = all_cfg(c);
+    c = four_transmit(four_transmit(four_transmit(four_transmit(c, 0), 4), 8), 12);
     c = write(c, 0x01, 0x01);
     c = write(c, 0x00, 0x00);
     c = write(c, 0x01, 0x00);

@@ -67,14 +67,14 @@ fn eleven_and_twelve() {
     c = bad_frame(c, b"\x21\x02\x01");
     c = frame(c, b"\x00\x01");
     c = frame(c, b"\x21\xF1\x05");
-    c = short_slot(c, 0x05, 0);
-    c = short_slot(c, 0x05, 13);
-    c = short_slot(c, 0x05, 14);
+    c = slot_with_1(c, 0x05);
+    c = slot_with_13(c, 0x05);
+    c = slot_with_14(c, 0x05);
     c = write(c, 0x10, 0x80);
     c = write(c, 0x00, 0x00);
     c = write(c, 0x00, 0x08);
     c = frame(c, b"\x21\x02\x01");
-    c = short_slot(c, 0x05, 13);
+    c = slot_with_13(c, 0x05);
     c = read(c, 0x00);
     frame(c, b"\x21\x00");
 }
