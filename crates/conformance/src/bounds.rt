@@ -3,7 +3,10 @@ use crate::bench::*;
 use controller::Controller;
 
 fn four_frames(c: Controller) -> Controller {
-    frame(frame(frame(frame(c, b"\x01\x00"), b"\x01\x00"), b"\x01\x00"), b"\x01\x00")
+    frame(
+        frame(frame(frame(c, b"\x01\x00"), b"\x01\x00"), b"\x01\x00"),
+        b"\x01\x00",
+    )
 }
 
 fn whole_fifo() {
@@ -23,7 +26,10 @@ fn whole_fifo() {
     c = write(c, 0x5F, 0x10);
     c = write(c, 0x50, 0x10);
     c = write(c, 0x50, 0x00);
-    c = frame(c, b"\xFF\x0C\x01\x02\x03\x04\x05\x06\x07\x08\x09\x0A\x0B\x0C");
+    c = frame(
+        c,
+        b"\xFF\x0C\x01\x02\x03\x04\x05\x06\x07\x08\x09\x0A\x0B\x0C",
+    );
     c = frame(c, b"\xFE\x00");
     read(c, 0x5F);
 }
@@ -54,7 +60,10 @@ fn four_transmit(c: Controller, n: u8) -> Controller {
     if 12 < n {
         return c;
     }
-    make_transmit(make_transmit(make_transmit(make_transmit(c, n), n + 1), n + 2), n + 3)
+    make_transmit(
+        make_transmit(make_transmit(make_transmit(c, n), n + 1), n + 2),
+        n + 3,
+    )
 }
 
 fn all_transmit() {
@@ -100,7 +109,10 @@ fn lengths() {
     c = slot(c, 0x00);
     c = slot(c, 0x01);
     c = slot(c, 0xFF);
-    c = frame(c, b"\x0F\x0F\x01\x02\x03\x04\x05\x06\x07\x08\x09\x0A\x0B\x0C");
+    c = frame(
+        c,
+        b"\x0F\x0F\x01\x02\x03\x04\x05\x06\x07\x08\x09\x0A\x0B\x0C",
+    );
     c = write(c, 0x50, 0x10);
     c = read(c, 0x31);
     read(c, 0x5D);

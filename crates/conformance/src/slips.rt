@@ -74,8 +74,14 @@ fn thirteen_bytes() {
     c = write(c, 0x50, 0x00);
     c = write(c, 0x00, 0x00);
     c = sync(c);
-    c = frame(c, b"\x40\x0D\x01\x02\x03\x04\x05\x06\x07\x08\x09\x0A\x0B\x0C\x0D");
-    c = frame(c, b"\x40\x0D\x01\x02\x03\x04\x05\x06\x07\x08\x09\x0A\x0B\x0C");
+    c = frame(
+        c,
+        b"\x40\x0D\x01\x02\x03\x04\x05\x06\x07\x08\x09\x0A\x0B\x0C\x0D",
+    );
+    c = frame(
+        c,
+        b"\x40\x0D\x01\x02\x03\x04\x05\x06\x07\x08\x09\x0A\x0B\x0C",
+    );
     c = write(c, 0x50, 0x10);
     c = read(c, 0x31);
     c = read(c, 0x3D);

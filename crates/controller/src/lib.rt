@@ -1,7 +1,7 @@
 // The emulated Byteflight controller: the control state and the sixteen buffers' bytes. Its methods take the record by value
 // and return the next one with its answer, one for each call or event; none asks anything of its caller.
-mod registers;
 mod events;
+mod registers;
 mod step;
 
 use contents::Contents;

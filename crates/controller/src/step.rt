@@ -5,6 +5,7 @@ ghost use Rattle.controller.specs.Code.{doneOf, stepFor, roomFor};
 use crate::Call;
 use crate::Controller;
 use crate::Done;
+use rules::Answer;
 
 impl Controller {
     // The call's own method. Only a slot looks at the room, and only a frame at the bytes f.
@@ -23,5 +24,14 @@ impl Controller {
             Call::Fault(k) => self.fault(k),
             Call::Timeout => self.timeout(),
         }
+    }
+
+    // The same on a lent record, changed in place.
+    pub fn step_in_place(&mut self, call: Call, f: &[u8], room: &mut [u8]) -> Answer
+        ensures { λ r. ⌜ (now (self .exit) ≡ doneOf (stepOf (now (self .entry)) (stepFor call (now (f .entry)) (now (room .entry)))) .next) × (r ≡ doneOf (stepOf (now (self .entry)) (stepFor call (now (f .entry)) (now (room .entry)))) .answer) × (now (room .exit) ≡ roomFor (now (self .entry)) call (now (room .entry))) ⌝ }
+    {
+        let out = (*self).step(call, f, room);
+        *self = out.next;
+        out.answer
     }
 }

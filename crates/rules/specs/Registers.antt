@@ -26,52 +26,72 @@ withFlag t b v = pick t (bitOr v b) v
 -- $00
 abbrev pub INITRQ : ℕ
 INITRQ = 0x80
+
 abbrev pub MASTER : ℕ
 MASTER = 0x40
+
 abbrev pub ALARM : ℕ
 ALARM = 0x20
+
 abbrev pub SLPAK : ℕ
 SLPAK = 0x10
+
 abbrev pub SLPRQ : ℕ
 SLPRQ = 0x08
+
 abbrev pub WPULSE : ℕ
 WPULSE = 0x04
+
 abbrev pub SSWAI : ℕ
 SSWAI = 0x02
+
 abbrev pub INITAK : ℕ
 INITAK = 0x01
 
 -- $06, and the enables in $08
 abbrev pub RCVFIF : ℕ
 RCVFIF = 0x80
+
 abbrev pub RXIF : ℕ
 RXIF = 0x40
+
 abbrev pub SYNAIF : ℕ
 SYNAIF = 0x20
+
 abbrev pub SYNNIF : ℕ
 SYNNIF = 0x10
+
 abbrev pub SLMMIF : ℕ
 SLMMIF = 0x08
+
 abbrev pub XSYNIF : ℕ
 XSYNIF = 0x02
 
 -- $07, and the enables in $09
 abbrev pub TXIF : ℕ
 TXIF = 0x80
+
 abbrev pub OVRNIF : ℕ
 OVRNIF = 0x40
+
 abbrev pub ERRIF : ℕ
 ERRIF = 0x20
+
 abbrev pub SYNEIF : ℕ
 SYNEIF = 0x10
+
 abbrev pub SYNLIF : ℕ
 SYNLIF = 0x08
+
 abbrev pub ILLPIF : ℕ
 ILLPIF = 0x04
+
 abbrev pub LOCKIF : ℕ
 LOCKIF = 0x02
+
 abbrev pub LOCKIE : ℕ
 LOCKIE = 0x02
+
 abbrev pub WAKEIF : ℕ
 WAKEIF = 0x01
 
@@ -82,20 +102,26 @@ BFEN = 0x80
 -- $12: a transmit buffer is locked, a dedicated receive buffer is locked
 abbrev pub TXBUFLOCK : ℕ
 TXBUFLOCK = 0x02
+
 abbrev pub RXBUFLOCK : ℕ
 RXBUFLOCK = 0x01
 
 -- $50 to $5F
 abbrev pub CFG : ℕ
 CFG = 0x80
+
 abbrev pub IENA : ℕ
 IENA = 0x40
+
 abbrev pub IFLG : ℕ
 IFLG = 0x20
+
 abbrev pub LOCK : ℕ
 LOCK = 0x10
+
 abbrev pub ABTRQ : ℕ
 ABTRQ = 0x08
+
 abbrev pub ABTAK : ℕ
 ABTAK = 0x04
 

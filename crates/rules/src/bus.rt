@@ -10,6 +10,14 @@ ghost use Rattle.rules.specs.Record.{withMode, withLast};
 ghost use Rattle.rules.specs.Code.{rulingOf, armsOf, syncedOf, flagged, dueOf};
 ghost use Rattle.rules.specs.declared.Fault.the-variants.{Lost};
 ghost use Rattle.rules.specs.declared.Answer.the-variants.{Ok, Pulse, Ignored, Woke};
+use crate::Answer;
+use crate::Control;
+use crate::Events;
+use crate::Fault;
+use crate::Fifo;
+use crate::Ruling;
+use crate::SyncKind;
+use crate::Verdict;
 use crate::bits::ERRIF;
 use crate::bits::ILLPIF;
 use crate::bits::OVRNIF;
@@ -21,14 +29,6 @@ use crate::bits::SYNNIF;
 use crate::bits::WAKEIF;
 use crate::bits::XSYNIF;
 use crate::kinds::place_after;
-use crate::Answer;
-use crate::Control;
-use crate::Events;
-use crate::Fault;
-use crate::Fifo;
-use crate::Ruling;
-use crate::SyncKind;
-use crate::Verdict;
 
 // An answer alone.
 fn ruling(next: Control, answer: Answer) -> Ruling
@@ -148,7 +148,11 @@ impl Control {
     pub fn due_kind(self) -> SyncKind
         ensures { λ r. ⌜ r ≡ dueKind self ⌝ }
     {
-        if self.mode.alarm { SyncKind::Alarm } else { SyncKind::Normal }
+        if self.mode.alarm {
+            SyncKind::Alarm
+        } else {
+            SyncKind::Normal
+        }
     }
 
     // ALARM cleared.

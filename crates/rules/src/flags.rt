@@ -3,6 +3,8 @@ ghost use mathlib.Core.Path.{_≡_};
 ghost use Rattle.masks.specs.Bits.{maskOf};
 ghost use Rattle.rules.specs.Registers.{withFlag};
 ghost use Rattle.rules.specs.Flags.{receivePending, transmitPending, receiveVector, transmitVector, rxif, txif, risr, gisr, writeRisr, defersClear, writeGisr, raises, linesOf};
+use crate::Control;
+use crate::Events;
 use crate::bits::GISR_EVENTS;
 use crate::bits::GISR_OTHERS;
 use crate::bits::LOCKIF;
@@ -15,8 +17,6 @@ use crate::bits::SYNLIF;
 use crate::bits::SYNNIF;
 use crate::bits::TXIF;
 use crate::bits::XSYNIF;
-use crate::Control;
-use crate::Events;
 
 // v, with the bits b where t holds.
 pub fn with_flag(t: bool, b: u8, v: u8) -> u8
@@ -80,14 +80,22 @@ impl Control {
     pub fn risr(self) -> u8
         ensures { λ r. ⌜ r ≡ risr self ⌝ }
     {
-        with_flag(self.rxif(), RXIF, with_flag(0 < self.fifo.count, RCVFIF, self.events.risr))
+        with_flag(
+            self.rxif(),
+            RXIF,
+            with_flag(0 < self.fifo.count, RCVFIF, self.events.risr),
+        )
     }
 
     // $07: the event flags with LOCKIF and TXIF.
     pub fn gisr(self) -> u8
         ensures { λ r. ⌜ r ≡ gisr self ⌝ }
     {
-        with_flag(self.lockif(), LOCKIF, with_flag(self.txif(), TXIF, self.events.gisr))
+        with_flag(
+            self.lockif(),
+            LOCKIF,
+            with_flag(self.txif(), TXIF, self.events.gisr),
+        )
     }
 
     // The five interrupt lines: 4 FIFO, 3 receive, 2 sync, 1 XSYNC, 0 general.
@@ -103,7 +111,11 @@ impl Control {
             with_flag(
                 raises(f, e, RXIF),
                 8,
-                with_flag(raises(f, e, SYNAIF + SYNNIF), 4, with_flag(raises(f, e, XSYNIF), 2, with_flag(general, 1, 0))),
+                with_flag(
+                    raises(f, e, SYNAIF + SYNNIF),
+                    4,
+                    with_flag(raises(f, e, XSYNIF), 2, with_flag(general, 1, 0)),
+                ),
             ),
         )
     }

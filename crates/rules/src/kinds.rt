@@ -2,8 +2,8 @@
 ghost use mathlib.Core.Path.{_≡_};
 ghost use Rattle.masks.specs.Bits.{maskOf};
 ghost use Rattle.rules.specs.Kinds.{isTransmit, isReceive, isFullTransmit, isLocked, isOldest, fifoHolder, lockif, isLawful, placeAfter};
-use crate::bits::NONE;
 use crate::Control;
+use crate::bits::NONE;
 
 impl Control {
     // Buffer n is a transmit buffer.

@@ -1,12 +1,12 @@
 // The controller's control state, by concern: everything but the buffers' bytes.
 pub mod bits;
-pub mod kinds;
-pub mod flags;
-pub mod reads;
-mod modes;
-pub mod writes;
 mod bus;
+pub mod flags;
+pub mod kinds;
+mod modes;
+pub mod reads;
 mod refusals;
+pub mod writes;
 
 use filter::Filter;
 use locks::Locks;

@@ -2,6 +2,11 @@
 ghost use mathlib.Core.Path.{_≡_};
 ghost use Rattle.rules.specs.Record.{withMode, withBuffers, withSleep};
 ghost use Rattle.rules.specs.Modes.{enteredMode, enteredBuffers, enter, leftMode, leave, wake, writeSleep, writtenMode, modeBy, writeMcr};
+use crate::Buffers;
+use crate::Control;
+use crate::Events;
+use crate::Fifo;
+use crate::Mode;
 use crate::bits::ALARM;
 use crate::bits::INITRQ;
 use crate::bits::LOCKIE;
@@ -9,11 +14,6 @@ use crate::bits::MASTER;
 use crate::bits::SLPRQ;
 use crate::bits::SSWAI;
 use crate::bits::WPULSE;
-use crate::Buffers;
-use crate::Control;
-use crate::Events;
-use crate::Fifo;
-use crate::Mode;
 
 impl Mode {
     // In initialization, awake and unsynchronized.

@@ -2,6 +2,9 @@
 ghost use mathlib.Core.Path.{_≡_};
 ghost use Rattle.rules.specs.Registers.{registerAt};
 ghost use Rattle.rules.specs.Reads.{mcr, buflock, bufctl, valueOf};
+use crate::Control;
+use crate::Mode;
+use crate::Register;
 use crate::bits::ABTAK;
 use crate::bits::ALARM;
 use crate::bits::BFEN;
@@ -19,9 +22,6 @@ use crate::bits::SSWAI;
 use crate::bits::TXBUFLOCK;
 use crate::bits::WPULSE;
 use crate::flags::with_flag;
-use crate::Control;
-use crate::Mode;
-use crate::Register;
 
 impl Mode {
     // $00.

@@ -3,9 +3,9 @@ ghost use mathlib.Core.Path.{_≡_};
 ghost use Rattle.masks.specs.Bits.{someOf};
 ghost use Rattle.rules.specs.Registers.{between};
 ghost use Rattle.rules.specs.Refusals.{refuses1, refuses2, refuses3, onlyInInit, refuses4, refuses5, refuses6, movedByFsiz, movedByCfg, refuses7, refuses8, newLock, notOldest, refuses9, noLockLeft, refuses10, readRefusal, writeRefusal, lateRefusal};
+use crate::Control;
 use crate::bits::INITRQ;
 use crate::bits::LOCK;
-use crate::Control;
 
 fn between(low: u8, a: u8, high: u8) -> bool
     ensures { λ r. ⌜ r ≡ between low a high ⌝ }
@@ -23,7 +23,12 @@ fn refuses3(a: u8) -> bool
 fn only_in_init(a: u8) -> bool
     ensures { λ r. ⌜ r ≡ onlyInInit a ⌝ }
 {
-    between(0x01, a, 0x04) || a == 0x0C || a == 0x0D || a == 0x14 || a == 0x15 || between(0x30, a, 0x3D)
+    between(0x01, a, 0x04)
+        || a == 0x0C
+        || a == 0x0D
+        || a == 0x14
+        || a == 0x15
+        || between(0x30, a, 0x3D)
 }
 
 // 6: FSIZ above 16.

@@ -2,6 +2,12 @@
 ghost use mathlib.Core.Path.{_≡_};
 ghost use Rattle.rules.specs.Record.{withConfig, withEvents, withFifo, withReceive, withTransmit, withFsiz, withTcr1, withTcr2, withTcr3, withRier, withGier, withBfen, withAccept, withReject, withPattern, withMask};
 ghost use Rattle.rules.specs.Writes.{entersByLock, lockError, disarm, lockFifo, lock, withoutOldest, releaseFifo, unlock, cfgAfter, writeCfg, writeIena, clearIflg, writeIflg, abort, writeAbtrq, writeLock, writeBufctl, writeGier, written};
+use crate::Buffers;
+use crate::Config;
+use crate::Control;
+use crate::Events;
+use crate::Fifo;
+use crate::Register;
 use crate::bits::ABTRQ;
 use crate::bits::BFEN;
 use crate::bits::CFG;
@@ -11,12 +17,6 @@ use crate::bits::LOCK;
 use crate::bits::LOCKIE;
 use crate::bits::RIER_BITS;
 use crate::kinds::place_after;
-use crate::Buffers;
-use crate::Config;
-use crate::Control;
-use crate::Events;
-use crate::Fifo;
-use crate::Register;
 use locks::Locks;
 
 impl Control {
@@ -205,7 +205,11 @@ impl Control {
     {
         let mut f = self.fifo;
         let oldest = place_after(self.config.fsiz, self.fifo.oldest);
-        let count = if 0 < self.fifo.count { self.fifo.count - 1 } else { 0 };
+        let count = if 0 < self.fifo.count {
+            self.fifo.count - 1
+        } else {
+            0
+        };
         f.oldest = oldest;
         f.count = count;
         f.locked = false;
@@ -229,7 +233,9 @@ impl Control {
         let rx = self.receive;
         let tx = self.transmit;
         let f = self.release_fifo(n);
-        self.with_receive(rx.release(n)).with_transmit(tx.release(n)).with_fifo(f)
+        self.with_receive(rx.release(n))
+            .with_transmit(tx.release(n))
+            .with_fifo(f)
     }
 
     // CFG of buffer n after the write of v.
@@ -322,7 +328,11 @@ impl Control {
     pub fn write_bufctl(self, n: u8, v: u8) -> Control
         ensures { λ r. ⌜ r ≡ writeBufctl self n v ⌝ }
     {
-        self.write_cfg(n, v).write_iena(n, v).write_iflg(n, v).write_abtrq(n, v).write_lock(n, v)
+        self.write_cfg(n, v)
+            .write_iena(n, v)
+            .write_iflg(n, v)
+            .write_abtrq(n, v)
+            .write_lock(n, v)
     }
 
     // A write of a register; a window's bytes are none of the control state.

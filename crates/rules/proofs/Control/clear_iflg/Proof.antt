@@ -14,9 +14,13 @@ put-requires-2 c κs = search needs
 
 returns : tie.Need-returns
 returns c =
-    simp
-    (pick-true, ← (c .put2 .ensures), c .before .if1 .taken, ← (c .before .before .is-transmit .ensures),
-    ← (c .before .before .before .put .ensures))
+    simp (
+      pick-true,
+      ← (c .put2 .ensures),
+      c .before .if1 .taken,
+      ← (c .before .before .is-transmit .ensures),
+      ← (c .before .before .before .put .ensures),
+    )
 
 returns-2 : tie.Need-returns-2
 returns-2 c = simp (pick-false, c .if1 .left, ← (c .before .is-transmit .ensures), ← (c .before .before .put .ensures))

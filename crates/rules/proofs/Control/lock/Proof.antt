@@ -24,11 +24,15 @@ lock-error-requires c κs = search needs
 returns : tie.Need-returns
 unfolding lock
 returns c =
-    simp
-    (pick-true, c .lock-error .ensures, c .before .with-transmit .ensures, c .before .before .take .ensures,
-    c .before .before .before .disarm .ensures,
-    ← (c .before .before .before .before .before .before .is-transmit .ensures),
-    c .before .before .before .before .before .if1 .taken)
+    simp (
+      pick-true,
+      c .lock-error .ensures,
+      c .before .with-transmit .ensures,
+      c .before .before .take .ensures,
+      c .before .before .before .disarm .ensures,
+      ← (c .before .before .before .before .before .before .is-transmit .ensures),
+      c .before .before .before .before .before .if1 .taken,
+    )
 
 is-receive-requires : tie.Need-is-receive-requires
 is-receive-requires c κs = search needs

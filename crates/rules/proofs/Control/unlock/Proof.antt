@@ -24,10 +24,14 @@ with-fifo-requires c κs = search needs
 returns : tie.Need-returns
 unfolding unlock
 returns c =
-    simp
-    (c .with-fifo .ensures, c .before .with-transmit .ensures, c .before .before .release2 .ensures,
-    c .before .before .before .with-receive .ensures, c .before .before .before .before .release .ensures,
-    c .before .before .before .before .before .release-fifo .ensures)
+    simp (
+      c .with-fifo .ensures,
+      c .before .with-transmit .ensures,
+      c .before .before .release2 .ensures,
+      c .before .before .before .with-receive .ensures,
+      c .before .before .before .before .release .ensures,
+      c .before .before .before .before .before .release-fifo .ensures,
+    )
 
 pub unlock-spec : {M : Type 1} → statement M
 unlock-spec =

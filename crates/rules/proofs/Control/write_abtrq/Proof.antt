@@ -18,10 +18,15 @@ with-buffers-requires c κs = search needs
 returns : tie.Need-returns
 unfolding writeAbtrq
 returns c =
-    simp
-    (pick-true, ← (c .with-buffers .ensures), ← (c .before .abort .ensures), c .before .before .if3 .taken,
-    ← (c .before .before .before .is-full-transmit .ensures), c .before .before .before .before .if2 .taken,
-    eq-eqb _ _ (c .before .before .before .before .before .before .if1 .taken))
+    simp (
+      pick-true,
+      ← (c .with-buffers .ensures),
+      ← (c .before .abort .ensures),
+      c .before .before .if3 .taken,
+      ← (c .before .before .before .is-full-transmit .ensures),
+      c .before .before .before .before .if2 .taken,
+      eq-eqb _ _ (c .before .before .before .before .before .before .if1 .taken),
+    )
 
 returns-2 : tie.Need-returns-2
 unfolding writeAbtrq

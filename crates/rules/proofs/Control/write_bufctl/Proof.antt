@@ -21,9 +21,13 @@ write-lock-requires c κs = search needs
 returns : tie.Need-returns
 unfolding writeBufctl
 returns c =
-    simp
-    (← (c .write-lock .ensures), ← (c .before .write-abtrq .ensures), ← (c .before .before .write-iflg .ensures),
-    ← (c .before .before .before .write-iena .ensures), ← (c .before .before .before .before .write-cfg .ensures))
+    simp (
+      ← (c .write-lock .ensures),
+      ← (c .before .write-abtrq .ensures),
+      ← (c .before .before .write-iflg .ensures),
+      ← (c .before .before .before .write-iena .ensures),
+      ← (c .before .before .before .before .write-cfg .ensures),
+    )
 
 pub write-bufctl-spec : {M : Type 1} → statement M
 write-bufctl-spec =

@@ -15,9 +15,13 @@ with-buffers-requires c κs = search needs
 returns : tie.Need-returns
 unfolding writeIflg
 returns c =
-    simp
-    (pick-true, ← (c .with-buffers .ensures), ← (c .before .clear-iflg .ensures), c .before .before .if2 .taken,
-    eq-eqb _ _ (c .before .before .before .before .if1 .taken))
+    simp (
+      pick-true,
+      ← (c .with-buffers .ensures),
+      ← (c .before .clear-iflg .ensures),
+      c .before .before .if2 .taken,
+      eq-eqb _ _ (c .before .before .before .before .if1 .taken),
+    )
 
 returns-2 : tie.Need-returns-2
 unfolding writeIflg

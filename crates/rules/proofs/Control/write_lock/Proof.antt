@@ -20,9 +20,14 @@ lock-requires c κs = search needs
 returns-2 : tie.Need-returns-2
 unfolding writeLock
 returns-2 c =
-    simp
-    (pick-true, pick-false, ← (c .lock .ensures), c .before .if2 .left, ← (c .before .before .is-locked .ensures),
-    eq-eqb _ _ (c .before .before .before .if1 .taken))
+    simp (
+      pick-true,
+      pick-false,
+      ← (c .lock .ensures),
+      c .before .if2 .left,
+      ← (c .before .before .is-locked .ensures),
+      eq-eqb _ _ (c .before .before .before .if1 .taken),
+    )
 
 unlock-requires : tie.Need-unlock-requires
 unlock-requires c κs = search needs

@@ -13,9 +13,13 @@ with-mode-requires c κs = search needs
 returns : tie.Need-returns
 unfolding writeMcr modeBy
 returns c =
-    simp
-    (pick-true, c .if2 .taken, c .before .if1 .taken, c .before .before .with-mode .ensures,
-    c .before .before .before .written .ensures)
+    simp (
+      pick-true,
+      c .if2 .taken,
+      c .before .if1 .taken,
+      c .before .before .with-mode .ensures,
+      c .before .before .before .written .ensures,
+    )
 
 leave-requires : tie.Need-leave-requires
 leave-requires c κs = search needs
@@ -23,9 +27,14 @@ leave-requires c κs = search needs
 returns-2 : tie.Need-returns-2
 unfolding writeMcr modeBy
 returns-2 c =
-    simp
-    (pick-true, c .leave .ensures, c .before .if2 .left, c .before .before .if1 .taken,
-    c .before .before .before .with-mode .ensures, c .before .before .before .before .written .ensures)
+    simp (
+      pick-true,
+      c .leave .ensures,
+      c .before .if2 .left,
+      c .before .before .if1 .taken,
+      c .before .before .before .with-mode .ensures,
+      c .before .before .before .before .written .ensures,
+    )
 
 enter-requires : tie.Need-enter-requires
 enter-requires c κs = search needs
@@ -33,9 +42,14 @@ enter-requires c κs = search needs
 returns-3 : tie.Need-returns-3
 unfolding writeMcr modeBy
 returns-3 c =
-    simp
-    (pick-false, c .enter .ensures, c .before .if3 .taken, c .before .before .if1 .left,
-    c .before .before .before .with-mode .ensures, c .before .before .before .before .written .ensures)
+    simp (
+      pick-false,
+      c .enter .ensures,
+      c .before .if3 .taken,
+      c .before .before .if1 .left,
+      c .before .before .before .with-mode .ensures,
+      c .before .before .before .before .written .ensures,
+    )
 
 write-sleep-requires : tie.Need-write-sleep-requires
 write-sleep-requires c κs = search needs
@@ -43,9 +57,14 @@ write-sleep-requires c κs = search needs
 returns-4 : tie.Need-returns-4
 unfolding writeMcr modeBy
 returns-4 c =
-    simp
-    (pick-false, c .write-sleep .ensures, c .before .if3 .left, c .before .before .if1 .left,
-    c .before .before .before .with-mode .ensures, c .before .before .before .before .written .ensures)
+    simp (
+      pick-false,
+      c .write-sleep .ensures,
+      c .before .if3 .left,
+      c .before .before .if1 .left,
+      c .before .before .before .with-mode .ensures,
+      c .before .before .before .before .written .ensures,
+    )
 
 pub write-mcr-spec : {M : Type 1} → statement M
 write-mcr-spec =

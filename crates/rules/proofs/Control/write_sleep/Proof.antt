@@ -13,9 +13,13 @@ with-mode-requires c κs = search needs
 returns : tie.Need-returns
 unfolding writeSleep
 returns c =
-    simp
-    (pick-true, ← (c .with-mode .ensures), ← (c .before .with-sleep .ensures), c .before .before .before .if2 .taken,
-    c .before .before .before .before .if1 .taken)
+    simp (
+      pick-true,
+      ← (c .with-mode .ensures),
+      ← (c .before .with-sleep .ensures),
+      c .before .before .before .if2 .taken,
+      c .before .before .before .before .if1 .taken,
+    )
 
 returns-2 : tie.Need-returns-2
 unfolding writeSleep
