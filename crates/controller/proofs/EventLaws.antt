@@ -6,15 +6,15 @@ use mathlib.Core.Path.{_≡_, refl, sym, ap, _∙_}
 use native.Mathlib.Omega.{arith}
 use borrow.Author.Tests.{lt-ltb, le-ltb, ltb-true, ltb-false, eqb-true, not-true, not-false, ne-eqb}
 use lib.Dec.{eqb, ltb}
-use lib.ListN.{getD, take, drop, length, replicate, List·getD-eq-default, drop-of-length-le, length-drop}
-use lib.Seq.{take-all}
+use lib.ListN.{getD, set, take, drop, length, replicate, List·getD-eq-default, drop-of-length-le, length-drop}
+use lib.Seq.{take-all, set-out}
 use Rattle.masks.specs.Pick.{pick-true, pick-false, by-test}
 use Rattle.contents.specs.declared.Contents.{Contents}
 use Rattle.contents.specs.Bytes.{noContents, cut, storeFrame, bytesFrom, frameOf, fillRoom}
 use Rattle.contents.specs.Room.{roomAfter, room-filled}
 use Rattle.rules.specs.Refusals.{refuses11}
 use Rattle.controller.specs.Carry.{rowAt}
-use Rattle.controller.specs.Code.{rowBytes}
+use Rattle.controller.specs.Code.{rowBytes, storedRow}
 
 -- ---- a frame's size
 
@@ -86,3 +86,16 @@ pub room-sent : (rows : List Contents) (room : List ℕ) (n : ℕ) → length ro
 room-sent rows room n l h b e =
     room-filled (record { bytes = b }) room h
     ∙ ap (λ (f : List ℕ). fillRoom f room) (ap (λ (x : List ℕ). frameOf (record { bytes = x })) e ∙ frame-row rows n l)
+
+-- ---- a frame stored in buffer n, w being what `store_frame` gives over its bytes b
+
+module _ (rows : List Contents) (n : ℕ) (f : List ℕ) where
+  pub stored-in : (b w : List ℕ) → n < 16 → b ≡ rowBytes rows n → w ≡ storeFrame (record { bytes = b }) (getD f 0 0) (getD f 1 0) (drop 2 f) .bytes →
+      set rows n (record { bytes = w }) ≡ storedRow rows n f
+  stored-in b w h p q =
+      ap (λ (x : List ℕ). set rows n (record { bytes = x })) q
+      ∙ ap (λ (x : List ℕ). set rows n (storeFrame (record { bytes = x }) (getD f 0 0) (getD f 1 0) (drop 2 f))) (p ∙ sym (bytes-in rows n h))
+
+  -- no buffer
+  pub stored-out : length rows ≡ 16 → 16 ≤ n → rows ≡ storedRow rows n f
+  stored-out l h = sym (set-out rows n _ (omega arith))

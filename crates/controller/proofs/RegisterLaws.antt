@@ -1,9 +1,9 @@
 -- Laws of the register calls.
-use Prim.Native.Nat.{ℕ, _≤_}
+use Prim.Native.Nat.{ℕ, _≤_, _<_}
 use mathlib.Core.Path.{_≡_, refl, sym, ap, _∙_}
 use mathlib.Core.List.{List, [], _∷_}
 use native.Mathlib.Omega.{arith}
-use lib.ListN.{length, getD, length-map, List·getD-eq-default}
+use lib.ListN.{length, getD, set, length-map, List·getD-eq-default}
 use lib.Seq.{set-out}
 use types.Run.{OneOf, miss}
 use mir.Val.{Val}
@@ -18,14 +18,21 @@ use Rattle.rules.specs.declared.Register.{Register}
 use Rattle.rules.specs.declared.Register.the-variants.{Mcr, Fsizr, Tcr1, Tcr2, Tcr3, Risr, Gisr, Rier, Gier, Rivec, Tivec, Fidac, Fidmr, Mvr, Pctlbf, Buflock, Fidrj, Fidrmr, TransmitWindow, ReceiveWindow, FifoWindow, Bufctl, Reserved}
 use Rattle.rules.specs.Reads.{valueOf}
 use Rattle.controller.specs.declared.Controller.{Controller}
+use Rattle.controller.specs.declared.FrameBytes.{FrameBytes}
 use Rattle.controller.specs.Carry.{rowAt}
-use Rattle.controller.specs.Code.{windowByte, registerValue, writePlace, writeWindow, writtenRows}
+use Rattle.controller.specs.Code.{windowByte, registerValue, writePlace, writeWindow, writtenRows, rowBytes}
+use Rattle.controller.proofs.EventLaws.{bytes-in}
 use Rattle.controller.proofs.Controller.{the-type as the-controller}
+use Rattle.controller.proofs.FrameBytes.{the-type as the-frame}
 
 -- ---- a controller that the code holds has sixteen rows
 
 pub sixteen-rows : (c : Controller) (vs : List Val) → shadow (row the-controller .own c vs) → length (c .rows) ≡ 16
 sixteen-rows c vs good = sym (length-map (c .rows) (the-contents .to)) ∙ good .1 .1 .1 .0 .1 .0 .1
+
+-- a frame by value has thirty bytes
+pub thirty-bytes : (f : FrameBytes) (vs : List Val) → shadow (row the-frame .own f vs) → length (f .bytes) ≡ 30
+thirty-bytes f vs good = sym (length-map (f .bytes) _) ∙ good .1 .1 .0 .1 .0 .1
 
 -- ---- a window with no holder
 
@@ -39,6 +46,15 @@ module _ (rows : List Contents) (n p : ℕ) (sixteen : length rows ≡ 16) (none
   pub none-written : (v : ℕ) → writeWindow rows n p v ≡ rows
   unfolding writeWindow
   none-written v = set-out rows n (writePlace (rowAt rows n) p v) (omega arith)
+
+-- ---- a window written, w being what `write_place` gives over the holder's bytes b
+
+pub written-in : (rows : List Contents) (n p v : ℕ) (b w : List ℕ) → n < 16 → b ≡ rowBytes rows n → w ≡ writePlace (record { bytes = b }) p v .bytes →
+    set rows n (record { bytes = w }) ≡ writeWindow rows n p v
+unfolding writeWindow
+written-in rows n p v b w h e q =
+    ap (λ (x : List ℕ). set rows n (record { bytes = x })) q
+    ∙ ap (λ (x : List ℕ). set rows n (writePlace (record { bytes = x }) p v)) (e ∙ sym (bytes-in rows n h))
 
 -- ---- the registers that have no arm of their own, by their places in the declaration
 

@@ -2,11 +2,11 @@
 -- ruling carried out, a register read, a window written.
 use Prim.Native.Nat.{ℕ, _-_, _%_}
 use mathlib.Core.List.{List, []}
-use lib.ListN.{getD, set, drop, length, replicate}
+use lib.ListN.{getD, set, take, drop, length, replicate}
 use lib.Dec.{eqb, ltb}
 use Rattle.masks.specs.Pick.{pick}
 use Rattle.contents.specs.declared.Contents.{Contents}
-use Rattle.contents.specs.Bytes.{withIdent, withLength, withData, storeFrame, frameOf, fillRoom}
+use Rattle.contents.specs.Bytes.{blank, withIdent, withLength, withData, storeFrame, frameOf, fillRoom}
 use Rattle.rules.specs.declared.Answer.{Answer}
 use Rattle.rules.specs.declared.Answer.the-variants.{Value, Sent, Refused}
 use Rattle.rules.specs.declared.Register.{Register}
@@ -19,8 +19,10 @@ use Rattle.rules.specs.Kinds.{fifoHolder}
 use Rattle.rules.specs.Reads.{valueOf}
 use Rattle.controller.specs.declared.Controller.{Controller}
 use Rattle.controller.specs.declared.Done.{Done}
+use Rattle.controller.specs.declared.Change.{Change}
 use Rattle.rules.specs.Steps.{Step, reset, read, write, sync, syncDue, slot, frame, fault, timeout}
 use Rattle.controller.specs.declared.Call.{Call}
+use Rattle.controller.specs.declared.FrameBytes.{FrameBytes}
 use Rattle.controller.specs.declared.Call.the-variants.{Reset, Read, Write, Sync, SyncDue, Slot, Frame, Fault, Timeout}
 use Rattle.controller.specs.Carry.{rowAt, Outcome}
 use Rattle.controller.specs.Session.{stepOf}
@@ -31,6 +33,15 @@ doneOf o = record { next = o .next; answer = o .answer }
 -- the record unchanged, with an answer
 abbrev pub answered : Controller → Answer → Done
 answered c a = record { next = c; answer = a }
+
+-- ---- a change carried out
+
+-- the buffers' bytes: one buffer's below 16, as they were at 16, all blank beyond
+unfoldable pub placed : List Contents → ℕ → List ℕ → List Contents
+placed rows n bytes = pick (ltb n 16) (set rows n (record { bytes = bytes })) (pick (eqb n 16) rows (replicate 16 blank))
+
+abbrev pub changed : Controller → Change → Done
+changed c x = record { next = record { control = x .control; rows = placed (c .rows) (x .place) (x .bytes) }; answer = x .answer }
 
 -- ---- a ruling carried out, the step's frame being f
 
@@ -137,6 +148,10 @@ stepFor (Slot i) f room = slot i room
 stepFor (Frame good) f room = frame good f
 stepFor (Fault k) f room = fault k
 stepFor Timeout f room = timeout
+
+-- the bytes of a frame by value
+abbrev pub bytesIn : FrameBytes → List ℕ
+bytesIn f = take (f .size) (f .bytes)
 
 -- the room after the call: only a slot touches it
 abbrev pub roomFor : Controller → Call → List ℕ → List ℕ

@@ -4,14 +4,14 @@ use Prim.Native.Nat.{ℕ, zero, suc, _+_, _-_, _%_, _≤_, _<_}
 use mathlib.Core.Bool.{Bool, true, false, _&&_, _||_, not}
 use mathlib.Core.List.{List, [], _∷_}
 use native.Mathlib.Omega.{arith}
-use borrow.Author.Tests.{ne-eqb, eq-eqb, eqb-true, eqb-false, ltb-true, ltb-false}
-use lib.ListN.{getD, set, drop, length, List·getD-eq-default}
+use borrow.Author.Tests.{lt-ltb, le-ltb, ne-eqb, eq-eqb, eqb-true, eqb-false, ltb-true, ltb-false}
+use lib.ListN.{getD, set, drop, length, replicate, List·getD-eq-default}
 use lib.Dec.{eqb, ltb, leb}
 use Rattle.masks.specs.Pick.{pick, pick-true, pick-false, pick-keeps, by-test}
 use Rattle.masks.specs.Bits.{maskOf, someOf, highest}
 use Rattle.masks.specs.Search.{some-false}
 use Rattle.contents.specs.declared.Contents.{Contents}
-use Rattle.contents.specs.Bytes.{Head, headOf, dataAt, noContents, fillRoom, frameOf}
+use Rattle.contents.specs.Bytes.{Head, headOf, blank, dataAt, noContents, fillRoom, frameOf}
 use Rattle.contents.specs.Room.{fill-none}
 use Rattle.rules.specs.declared.SyncKind.{SyncKind}
 use Rattle.rules.specs.declared.Fault.{Fault}
@@ -30,14 +30,15 @@ use Rattle.rules.specs.Refusals.{refuses1, refuses11, refuses12, firstOf, readR
 use Rattle.rules.specs.Bus.{lookup, offers, judged, received, slotFor, slotted, synced, dueSync, timedOut, faulted}
 use Rattle.rules.specs.Rules.{wakes, sleepsOn, act, decide}
 use Rattle.rules.specs.Hidden.{decide-hide}
-use Rattle.rules.specs.Code.{rulingOf, isNamed, syncedOf, dueOf}
-use Rattle.rules.specs.CodeLaws.{Simple, says, stores, sends, synced-named, due-named, frame-simple, slot-simple, wakes-simple, sleeps-simple, due-simple}
+use Rattle.rules.specs.Code.{rulingOf, isReady, syncedOf, dueOf}
+use Rattle.rules.specs.CodeLaws.{Simple, says, stores, sends, synced-ready, due-ready, frame-simple, slot-simple, wakes-simple, sleeps-simple, due-simple}
 use Rattle.controller.specs.declared.Controller.{Controller}
 use Rattle.controller.specs.declared.Done.{Done}
+use Rattle.controller.specs.declared.Change.{Change}
 use Rattle.controller.specs.Carry.{heads, rowAt, moveAll, answerOf, Outcome, carry, resetState}
 use Rattle.controller.specs.Session.{stepOf}
 use Rattle.controller.specs.View.{head-at}
-use Rattle.controller.specs.Code.{doneOf, answered, roomBy, ruled, windowByte, registerValue, writePlace, writeWindow, writtenRows}
+use Rattle.controller.specs.Code.{doneOf, answered, placed, changed, roomBy, ruled, windowByte, registerValue, writePlace, writeWindow, writtenRows}
 
 not-false : (t : Bool) → not t ≡ false → t ≡ true
 not-false true e = refl
@@ -47,6 +48,45 @@ not-false false e = sym e
 step-plain : (c : Controller) (e : Step) → stepOf c e ≡ carry e (c .rows) (decide (c .control) (heads (c .rows)) e)
 unfolding stepOf
 step-plain c e = ap (carry e (c .rows)) (decide-hide (c .control) (heads (c .rows)) e)
+
+-- ---- a change carried out
+
+module _ (rows : List Contents) (n : ℕ) (bytes : List ℕ) where
+  pub placed-none : n ≡ 16 → placed rows n bytes ≡ rows
+  unfolding placed pick
+  placed-none e = ap (λ (k : ℕ). placed rows k bytes) e
+
+  pub placed-one : n < 16 → placed rows n bytes ≡ set rows n (record { bytes = bytes })
+  unfolding placed
+  placed-one h = pick-true (ltb n 16) _ _ (lt-ltb n 16 h)
+
+  pub placed-all : 16 < n → placed rows n bytes ≡ replicate 16 blank
+  unfolding placed
+  placed-all h =
+      pick-false (ltb n 16) _ _ (le-ltb n 16 (omega arith))
+      ∙ pick-false (eqb n 16) _ _ (ne-eqb n 16 (λ e. omega arith))
+
+-- the control state d alone, with the answer a
+abbrev pub saying : Control → Answer → Change
+saying d a = record { control = d; place = 16; bytes = replicate 14 0; answer = a }
+
+-- the control state d and the bytes b of buffer n, with the answer a
+abbrev pub placing : Control → ℕ → List ℕ → Answer → Change
+placing d n b a = record { control = d; place = n; bytes = b; answer = a }
+
+module _ (c : Controller) (x : Change) (d : Control) (a : Answer) where
+  -- the record and answer with some bytes
+  abbrev given : List Contents → Done
+  given rows = record { next = record { control = d; rows = rows }; answer = a }
+
+  pub says-only : x ≡ saying d a → changed c x ≡ given (c .rows)
+  says-only e = ap (changed c) e ∙ ap given (placed-none (c .rows) 16 (replicate 14 0) refl)
+
+  pub places-one : (n : ℕ) (b : List ℕ) → x ≡ placing d n b a → n < 16 → changed c x ≡ given (set (c .rows) n (record { bytes = b }))
+  places-one n b e h = ap (changed c) e ∙ ap given (placed-one (c .rows) n b h)
+
+  pub wipes-all : (b : List ℕ) → x ≡ placing d 17 b a → changed c x ≡ given (replicate 16 blank)
+  wipes-all b e = ap (changed c) e ∙ ap given (placed-all (c .rows) 17 b (omega arith))
 
 -- ---- rulings
 
@@ -71,17 +111,17 @@ room-by-plan : (c : Controller) (e : Step) (p : Plan) → decide (c .control) (h
 room-by-plan c e p d s = ap (λ (o : Outcome). o .room) (step-plain c e ∙ ap (carry e (c .rows)) d) ∙ ruled-room c e p s
 
 module _ (c : Controller) where
-  pub sync-step : (k : SyncKind) (m : ℕ) → m ≡ maskOf (isNamed (heads (c .rows))) →
+  pub sync-step : (k : SyncKind) (m : ℕ) → m ≡ maskOf (isReady (c .control) (heads (c .rows))) →
       doneOf (stepOf c (sync k)) ≡ ruled c [] (rulingOf (wakes (c .control) (plain (syncedOf k (c .control) m) Ok)))
   unfolding decide refusal act pick
   sync-step k m e =
-      by-plan c (sync k) _ (ap (λ (d : Control). wakes (c .control) (plain d Ok)) (sym (synced-named k (c .control) (heads (c .rows)) m e)))
+      by-plan c (sync k) _ (ap (λ (d : Control). wakes (c .control) (plain d Ok)) (sym (synced-ready k (c .control) (heads (c .rows)) m e)))
       (wakes-simple (c .control) (syncedOf k (c .control) m) Ok)
 
-  pub due-step : (m : ℕ) → m ≡ maskOf (isNamed (heads (c .rows))) → doneOf (stepOf c syncDue) ≡ ruled c [] (rulingOf (sleepsOn (c .control) (dueOf (c .control) m)))
+  pub due-step : (m : ℕ) → m ≡ maskOf (isReady (c .control) (heads (c .rows))) → doneOf (stepOf c syncDue) ≡ ruled c [] (rulingOf (sleepsOn (c .control) (dueOf (c .control) m)))
   unfolding decide refusal act pick
   due-step m e =
-      by-plan c syncDue _ (ap (λ (q : Plan). sleepsOn (c .control) q) (sym (due-named (c .control) (heads (c .rows)) m e))) (due-simple (c .control) m)
+      by-plan c syncDue _ (ap (λ (q : Plan). sleepsOn (c .control) q) (sym (due-ready (c .control) (heads (c .rows)) m e))) (due-simple (c .control) m)
 
   pub fault-step : (k : Fault) → doneOf (stepOf c (fault k)) ≡ ruled c [] (rulingOf (wakes (c .control) (plain (faulted k (c .control)) Ok)))
   unfolding decide refusal act pick

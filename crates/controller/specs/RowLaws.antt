@@ -1,21 +1,21 @@
 -- The searches over the buffers' bytes are those over their heads.
-use mathlib.Core.Path.{_≡_, refl, ap}
-use Prim.Native.Nat.{ℕ}
-use mathlib.Core.Bool.{Bool, _&&_, not}
+use mathlib.Core.Path.{_≡_, refl, sym, ap, _∙_}
+use Prim.Native.Nat.{ℕ, _<_}
+use mathlib.Core.Bool.{Bool, false, _&&_, not}
 use mathlib.Core.List.{List}
 use native.Mathlib.Omega.{arith}
 use lib.ListN.{getD}
 use lib.Dec.{eqb}
-use Rattle.masks.specs.Bits.{maskOf, highest}
-use Rattle.masks.specs.Laws.{bit-mask, same-mask}
+use Rattle.masks.specs.Bits.{bitOf, maskOf, highest}
+use Rattle.masks.specs.Laws.{bit-none, bit-mask, mask-of, same-mask}
 use Rattle.masks.specs.Search.{lowest-ext, highest-ext}
 use Rattle.contents.specs.declared.Contents.{Contents}
-use Rattle.rows.specs.Search.{carriesAt, namedAt, lowestWith, highestWith, namedOf}
+use Rattle.rows.specs.Search.{carriesAt, namedAt, isNamedIn, lowestWith, highestWith, namedOf}
 use Rattle.rules.specs.declared.Control.{Control}
-use Rattle.rules.specs.Kinds.{isReceive}
+use Rattle.rules.specs.Kinds.{isReceive, isFullTransmit}
 use Rattle.rules.specs.Plan.{headAt}
 use Rattle.rules.specs.Bus.{receives, lookup, offers}
-use Rattle.rules.specs.Code.{isNamed}
+use Rattle.rules.specs.Code.{isNamed, isReady}
 use Rattle.controller.specs.Carry.{heads, rowAt}
 use Rattle.controller.specs.View.{head-at}
 
@@ -34,6 +34,19 @@ unfolding highestWith carriesAt offers
 offers-rows c rows i =
     highest-ext (carriesAt rows (c .buffers .armed) i) (offers c (heads rows) i) 16 (omega arith) (λ n h. simp (ident-same rows n))
 
-pub named-rows : (rows : List Contents) → namedOf rows ≡ maskOf (isNamed (heads rows))
-unfolding namedOf namedAt isNamed
-named-rows rows = same-mask (namedAt rows) (isNamed (heads rows)) (λ n h. simp (ident-same rows n))
+-- m being the full transmit buffers
+module _ (c : Control) (rows : List Contents) (m : ℕ) (full : m ≡ maskOf (isFullTransmit c)) where
+  pub ready-rows : namedOf rows m ≡ maskOf (isReady c (heads rows))
+  unfolding namedOf isNamedIn namedAt isReady isNamed
+  ready-rows =
+      same-mask (isNamedIn rows m) (isReady c (heads rows)) (λ n h. simp (full, bit-mask (isFullTransmit c) n h, ident-same rows n))
+
+  -- where no buffer is full, none is ready
+  pub none-ready : m ≡ 0 → 0 ≡ maskOf (isReady c (heads rows))
+  unfolding isReady
+  none-ready z =
+      mask-of 0 (isReady c (heads rows)) (omega arith)
+      (λ n h. bit-none n ∙ ap (λ (t : Bool). t && isNamed (heads rows) n) (sym (empty n h)))
+    where
+      empty : (n : ℕ) → n < 16 → isFullTransmit c n ≡ false
+      empty n h = sym (bit-mask (isFullTransmit c) n h) ∙ ap (λ (x : ℕ). bitOf x n) (sym full ∙ z) ∙ bit-none n

@@ -7,16 +7,19 @@ ghost use Rattle.contents.specs.Bytes.{storeFrame};
 ghost use Rattle.rules.specs.Refusals.{refuses11};
 ghost use Rattle.rules.specs.Bus.{lookup, offers};
 ghost use Rattle.masks.specs.Bits.{highest, maskOf};
-ghost use Rattle.rules.specs.Code.{isNamed};
+ghost use Rattle.rules.specs.Code.{isReady};
 ghost use Rattle.rules.specs.Flags.{linesOf};
 ghost use Rattle.rules.specs.Steps.Step.{sync, syncDue, slot, frame, fault, timeout};
 ghost use Rattle.controller.specs.Carry.{heads};
 ghost use Rattle.controller.specs.Session.{stepOf};
-ghost use Rattle.controller.specs.Code.{doneOf, storedRow, rowBytes, ruled, roomBy};
+ghost use Rattle.controller.specs.Code.{doneOf, storedRow, rowBytes, ruled, roomBy, changed};
+use crate::Change;
 use crate::Controller;
 use crate::Done;
-use contents::Contents;
+use crate::changes::with_answer;
+use crate::changes::with_bytes;
 use rules::Answer;
+use rules::Control;
 use rules::Fault;
 use rules::Ruling;
 use rules::SyncKind;
@@ -79,12 +82,17 @@ impl Controller {
         rows::highest_with(r, c.buffers.armed, i)
     }
 
-    // The buffers with an identifier.
+    // The full transmit buffers with an identifier: no other can be armed.
     fn named(self) -> u16
-        ensures { λ r. ⌜ r ≡ maskOf (isNamed (heads (self .rows))) ⌝ }
+        ensures { λ r. ⌜ r ≡ maskOf (isReady (self .control) (heads (self .rows))) ⌝ }
     {
+        let c = self.control;
+        let full = c.full();
+        if full == 0 {
+            return 0;
+        }
         let r = self.rows;
-        rows::named(r)
+        rows::named(r, full)
     }
 
     // The fourteen bytes of buffer n, zeros past the last.
@@ -99,43 +107,29 @@ impl Controller {
         row.bytes
     }
 
-    // The frame f stored in buffer n.
-    fn with_frame(self, n: u8, f: &[u8]) -> Controller
-        ensures { λ r. ⌜ r ≡ record { control = self .control; rows = storedRow (self .rows) n (now (f .entry)) } ⌝ }
+    // The frame f stored in buffer n, 16 or more for none, the control state being c.
+    fn stored(self, c: Control, n: u8, f: &[u8], a: Answer) -> Change
+        ensures { λ x. ⌜ changed self x ≡ record { next = record { control = c; rows = storedRow (self .rows) n (now (f .entry)) }; answer = a } ⌝ }
     {
         if 16 <= n {
-            return self;
+            return with_answer(c, a);
         }
-        let i = n as usize;
-        let row = self.rows[i];
-        let b = row.bytes;
-        let w = store_frame(b, f);
-        let mut next = self;
-        next.rows[i] = Contents { bytes: w };
-        next
+        with_bytes(c, n, store_frame(self.contents_of(n), f), a)
     }
 
-    // A ruling carried out, the step's frame being f.
-    fn ruled(self, r: Ruling, f: &[u8]) -> Done
-        ensures { λ d. ⌜ d ≡ ruled self (now (f .entry)) r ⌝ }
+    // A ruling as a change, the step's frame being f.
+    fn ruled(self, r: Ruling, f: &[u8]) -> Change
+        ensures { λ x. ⌜ changed self x ≡ ruled self (now (f .entry)) r ⌝ }
     {
         let control = r.next;
         let verdict = r.verdict;
-        let mut next = self;
-        next.control = control;
         match verdict {
-            Verdict::Say(a) => Done {
-                next: next,
-                answer: a,
-            },
-            Verdict::Store(n, a) => Done {
-                next: next.with_frame(n, f),
-                answer: a,
-            },
-            Verdict::Send(n) => Done {
-                next: next,
-                answer: Answer::Sent(contents::frame_size(self.contents_of(n))),
-            },
+            Verdict::Say(a) => with_answer(control, a),
+            Verdict::Store(n, a) => self.stored(control, n, f, a),
+            Verdict::Send(n) => with_answer(
+                control,
+                Answer::Sent(contents::frame_size(self.contents_of(n))),
+            ),
         }
     }
 
@@ -154,50 +148,97 @@ impl Controller {
     }
 
     // A sync of a kind.
-    pub fn sync(self, k: SyncKind) -> Done
-        ensures { λ r. ⌜ r ≡ doneOf (stepOf self (sync k)) ⌝ }
+    pub(crate) fn plan_sync(self, k: SyncKind) -> Change
+        ensures { λ x. ⌜ changed self x ≡ doneOf (stepOf self (sync k)) ⌝ }
     {
         let c = self.control;
         self.ruled(c.on_sync(k, self.named()), b"")
     }
 
     // A sync due.
-    pub fn sync_due(self) -> Done
-        ensures { λ r. ⌜ r ≡ doneOf (stepOf self syncDue) ⌝ }
+    pub(crate) fn plan_due(self) -> Change
+        ensures { λ x. ⌜ changed self x ≡ doneOf (stepOf self syncDue) ⌝ }
     {
         let c = self.control;
         self.ruled(c.on_due(self.named()), b"")
     }
 
     // A frame: its verdict and its bytes.
-    pub fn frame(self, good: bool, f: &[u8]) -> Done
-        ensures { λ r. ⌜ r ≡ doneOf (stepOf self (frame good (now (f .entry)))) ⌝ }
+    pub(crate) fn plan_frame(self, good: bool, f: &[u8]) -> Change
+        ensures { λ x. ⌜ changed self x ≡ doneOf (stepOf self (frame good (now (f .entry)))) ⌝ }
     {
+        let c = self.control;
         if !well_sized(f) {
-            return Done {
-                next: self,
-                answer: Answer::Refused(11),
-            };
+            return with_answer(c, Answer::Refused(11));
         }
         let i = f[0];
-        let c = self.control;
         self.ruled(c.on_frame(good, i, self.lookup(i)), f)
     }
 
     // A fault of the bus.
-    pub fn fault(self, k: Fault) -> Done
-        ensures { λ r. ⌜ r ≡ doneOf (stepOf self (fault k)) ⌝ }
+    pub(crate) fn plan_fault(self, k: Fault) -> Change
+        ensures { λ x. ⌜ changed self x ≡ doneOf (stepOf self (fault k)) ⌝ }
     {
         let c = self.control;
         self.ruled(c.on_fault(k), b"")
     }
 
     // The alarm timeout.
-    pub fn timeout(self) -> Done
-        ensures { λ r. ⌜ r ≡ doneOf (stepOf self timeout) ⌝ }
+    pub(crate) fn plan_timeout(self) -> Change
+        ensures { λ x. ⌜ changed self x ≡ doneOf (stepOf self timeout) ⌝ }
     {
         let c = self.control;
         self.ruled(c.on_timeout(), b"")
+    }
+
+    // Slot i.
+    pub(crate) fn plan_slot(self, i: u8, room: &mut [u8]) -> Change
+        ensures { λ x. ⌜ changed self x ≡ doneOf (stepOf self (slot i (now (room .entry)))) ⌝ }
+        ensures { λ _. ⌜ now (room .exit) ≡ stepOf self (slot i (now (room .entry))) .room ⌝ }
+    {
+        let c = self.control;
+        if room.len() < 14 {
+            return with_answer(c, Answer::Refused(12));
+        }
+        let r = c.on_slot(i, self.offering(i));
+        let verdict = r.verdict;
+        self.fill(verdict, room);
+        self.ruled(r, b"")
+    }
+
+    // A sync of a kind.
+    pub fn sync(self, k: SyncKind) -> Done
+        ensures { λ r. ⌜ r ≡ doneOf (stepOf self (sync k)) ⌝ }
+    {
+        self.carried(self.plan_sync(k))
+    }
+
+    // A sync due.
+    pub fn sync_due(self) -> Done
+        ensures { λ r. ⌜ r ≡ doneOf (stepOf self syncDue) ⌝ }
+    {
+        self.carried(self.plan_due())
+    }
+
+    // A frame: its verdict and its bytes.
+    pub fn frame(self, good: bool, f: &[u8]) -> Done
+        ensures { λ r. ⌜ r ≡ doneOf (stepOf self (frame good (now (f .entry)))) ⌝ }
+    {
+        self.carried(self.plan_frame(good, f))
+    }
+
+    // A fault of the bus.
+    pub fn fault(self, k: Fault) -> Done
+        ensures { λ r. ⌜ r ≡ doneOf (stepOf self (fault k)) ⌝ }
+    {
+        self.carried(self.plan_fault(k))
+    }
+
+    // The alarm timeout.
+    pub fn timeout(self) -> Done
+        ensures { λ r. ⌜ r ≡ doneOf (stepOf self timeout) ⌝ }
+    {
+        self.carried(self.plan_timeout())
     }
 
     // Slot i. A sent frame fills the first bytes of the room, and the rest stays, as the whole room does on any other answer.
@@ -205,16 +246,6 @@ impl Controller {
         ensures { λ r. ⌜ r ≡ doneOf (stepOf self (slot i (now (room .entry)))) ⌝ }
         ensures { λ _. ⌜ now (room .exit) ≡ stepOf self (slot i (now (room .entry))) .room ⌝ }
     {
-        if room.len() < 14 {
-            return Done {
-                next: self,
-                answer: Answer::Refused(12),
-            };
-        }
-        let c = self.control;
-        let r = c.on_slot(i, self.offering(i));
-        let verdict = r.verdict;
-        self.fill(verdict, room);
-        self.ruled(r, b"")
+        self.carried(self.plan_slot(i, room))
     }
 }

@@ -1,5 +1,6 @@
 // The emulated Byteflight controller: the control state and the sixteen buffers' bytes. Its methods take the record by value
 // and return the next one with its answer, one for each call or event; none asks anything of its caller.
+mod changes;
 mod events;
 mod registers;
 mod step;
@@ -21,6 +22,15 @@ pub struct Done {
     pub answer: Answer,
 }
 
+// What a step changes: the control state, and the bytes of one buffer. A place of 16 stands for no buffer, 17 for all of
+// them blank. It is small, so that a step in place writes no more of the record than it changes.
+struct Change {
+    control: Control,
+    place: u8,
+    bytes: [u8; 14],
+    answer: Answer,
+}
+
 // A call or an event as a value; the frame's bytes and the room for a sent frame go beside it.
 pub enum Call {
     Reset,
@@ -32,4 +42,10 @@ pub enum Call {
     Frame(bool),
     Fault(Fault),
     Timeout,
+}
+
+// A frame's bytes as a value: the first size of them, all thirty where size is larger. No line of a recording has more.
+pub struct FrameBytes {
+    pub bytes: [u8; 30],
+    pub size: u8,
 }

@@ -1,13 +1,15 @@
 // Reset, and the register calls.
 ghost use mathlib.Core.Path.{_≡_};
-ghost use lib.ListN.{set};
-ghost use Rattle.contents.specs.declared.Contents.{Contents};
+ghost use Rattle.rules.specs.declared.Answer.the-variants.{Ok};
 ghost use Rattle.rules.specs.Steps.Step.{reset, read, write};
 ghost use Rattle.controller.specs.Carry.{resetState};
 ghost use Rattle.controller.specs.Session.{stepOf};
-ghost use Rattle.controller.specs.Code.{doneOf, answered, windowByte, registerValue, writePlace, writeWindow, writtenRows};
+ghost use Rattle.controller.specs.Code.{doneOf, changed, windowByte, registerValue, writePlace, writeWindow, writtenRows};
+use crate::Change;
 use crate::Controller;
 use crate::Done;
+use crate::changes::with_answer;
+use crate::changes::with_bytes;
 use contents::Contents;
 use filter::Filter;
 use locks::Locks;
@@ -97,6 +99,14 @@ impl Controller {
     }
 
     // A reset, whatever the record.
+    pub(crate) fn plan_reset(self) -> Change
+        ensures { λ x. ⌜ changed self x ≡ doneOf (stepOf self reset) ⌝ }
+    {
+        let fresh = Controller::after_reset();
+        with_bytes(fresh.control, 17, [0u8; 14], Answer::Ok)
+    }
+
+    // A reset, whatever the record.
     pub fn reset(self) -> Done
         ensures { λ r. ⌜ r ≡ doneOf (stepOf self reset) ⌝ }
     {
@@ -133,71 +143,64 @@ impl Controller {
     }
 
     // A register read. It changes nothing.
-    pub fn read(self, a: u8) -> Done
-        ensures { λ r. ⌜ r ≡ doneOf (stepOf self (read a)) ⌝ }
+    pub(crate) fn plan_read(self, a: u8) -> Change
+        ensures { λ x. ⌜ changed self x ≡ doneOf (stepOf self (read a)) ⌝ }
     {
         let c = self.control;
         let k = c.read_refusal(a);
         if k != 0 {
-            return Done {
-                next: self,
-                answer: Answer::Refused(k),
-            };
+            return with_answer(c, Answer::Refused(k));
         }
         let v = self.register_value(rules::reads::register_at(a));
-        Done {
-            next: self,
-            answer: Answer::Value(v),
-        }
+        with_answer(c, Answer::Value(v))
     }
 
-    // The window of buffer n, 16 for none, with place p written.
-    fn write_window(self, n: u8, p: u8, v: u8) -> Controller
-        ensures { λ r. ⌜ r ≡ record { control = self .control; rows = writeWindow (self .rows) n p v } ⌝ }
+    // The window of buffer n, 16 or more for none, with place p written, the control state being c.
+    fn write_window(self, c: Control, n: u8, p: u8, v: u8) -> Change
+        ensures { λ x. ⌜ changed self x ≡ record { next = record { control = c; rows = writeWindow (self .rows) n p v }; answer = Ok } ⌝ }
     {
         if 16 <= n {
-            return self;
+            return with_answer(c, Answer::Ok);
         }
-        let i = n as usize;
-        let row = self.rows[i];
-        let b = row.bytes;
-        let w = write_place(b, p, v);
-        let mut next = self;
-        next.rows[i] = Contents { bytes: w };
-        next
+        with_bytes(c, n, write_place(self.contents_of(n), p, v), Answer::Ok)
     }
 
-    // The buffers' bytes after the write of a register.
-    fn write_rows(self, register: Register, v: u8) -> Controller
-        ensures { λ r. ⌜ r ≡ record { control = self .control; rows = writtenRows self register v } ⌝ }
+    // The write of a register that gives the control state c.
+    fn write_rows(self, c: Control, register: Register, v: u8) -> Change
+        ensures { λ x. ⌜ changed self x ≡ record { next = record { control = c; rows = writtenRows self register v }; answer = Ok } ⌝ }
+    {
+        let holders = self.control;
+        match register {
+            Register::TransmitWindow(p) => self.write_window(c, holders.transmit.holder, p, v),
+            Register::ReceiveWindow(p) => self.write_window(c, holders.receive.holder, p, v),
+            _ => with_answer(c, Answer::Ok),
+        }
+    }
+
+    // A register write.
+    pub(crate) fn plan_write(self, a: u8, v: u8) -> Change
+        ensures { λ x. ⌜ changed self x ≡ doneOf (stepOf self (write a v)) ⌝ }
     {
         let c = self.control;
-        match register {
-            Register::TransmitWindow(p) => self.write_window(c.transmit.holder, p, v),
-            Register::ReceiveWindow(p) => self.write_window(c.receive.holder, p, v),
-            _ => self,
+        let k = c.write_refusal(a, v);
+        if k != 0 {
+            return with_answer(c, Answer::Refused(k));
         }
+        let register = rules::reads::register_at(a);
+        self.write_rows(c.written(register, v), register, v)
+    }
+
+    // A register read. It changes nothing.
+    pub fn read(self, a: u8) -> Done
+        ensures { λ r. ⌜ r ≡ doneOf (stepOf self (read a)) ⌝ }
+    {
+        self.carried(self.plan_read(a))
     }
 
     // A register write.
     pub fn write(self, a: u8, v: u8) -> Done
         ensures { λ r. ⌜ r ≡ doneOf (stepOf self (write a v)) ⌝ }
     {
-        let c = self.control;
-        let k = c.write_refusal(a, v);
-        if k != 0 {
-            return Done {
-                next: self,
-                answer: Answer::Refused(k),
-            };
-        }
-        let register = rules::reads::register_at(a);
-        let control = c.written(register, v);
-        let mut next = self.write_rows(register, v);
-        next.control = control;
-        Done {
-            next: next,
-            answer: Answer::Ok,
-        }
+        self.carried(self.plan_write(a, v))
     }
 }

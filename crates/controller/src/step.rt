@@ -1,37 +1,64 @@
 // A call or an event as a value.
 ghost use mathlib.Core.Path.{_≡_};
 ghost use Rattle.controller.specs.Session.{stepOf};
-ghost use Rattle.controller.specs.Code.{doneOf, stepFor, roomFor};
+ghost use Rattle.controller.specs.Code.{doneOf, changed, stepFor, roomFor, bytesIn};
 use crate::Call;
+use crate::Change;
 use crate::Controller;
 use crate::Done;
+use crate::FrameBytes;
 use rules::Answer;
 
 impl Controller {
-    // The call's own method. Only a slot looks at the room, and only a frame at the bytes f.
+    // What the call changes. Only a slot looks at the room, and only a frame at the bytes f.
+    fn plan(self, call: Call, f: &[u8], room: &mut [u8]) -> Change
+        ensures { λ x. ⌜ changed self x ≡ doneOf (stepOf self (stepFor call (now (f .entry)) (now (room .entry)))) ⌝ }
+        ensures { λ _. ⌜ now (room .exit) ≡ roomFor self call (now (room .entry)) ⌝ }
+    {
+        match call {
+            Call::Reset => self.plan_reset(),
+            Call::Read(a) => self.plan_read(a),
+            Call::Write(a, v) => self.plan_write(a, v),
+            Call::Sync(k) => self.plan_sync(k),
+            Call::SyncDue => self.plan_due(),
+            Call::Slot(i) => self.plan_slot(i, room),
+            Call::Frame(good) => self.plan_frame(good, f),
+            Call::Fault(k) => self.plan_fault(k),
+            Call::Timeout => self.plan_timeout(),
+        }
+    }
+
+    // The call's own method.
     pub fn step(self, call: Call, f: &[u8], room: &mut [u8]) -> Done
         ensures { λ r. ⌜ r ≡ doneOf (stepOf self (stepFor call (now (f .entry)) (now (room .entry)))) ⌝ }
         ensures { λ _. ⌜ now (room .exit) ≡ roomFor self call (now (room .entry)) ⌝ }
     {
-        match call {
-            Call::Reset => self.reset(),
-            Call::Read(a) => self.read(a),
-            Call::Write(a, v) => self.write(a, v),
-            Call::Sync(k) => self.sync(k),
-            Call::SyncDue => self.sync_due(),
-            Call::Slot(i) => self.slot(i, room),
-            Call::Frame(good) => self.frame(good, f),
-            Call::Fault(k) => self.fault(k),
-            Call::Timeout => self.timeout(),
-        }
+        self.carried(self.plan(call, f, room))
     }
 
-    // The same on a lent record, changed in place.
-    pub fn step_in_place(&mut self, call: Call, f: &[u8], room: &mut [u8]) -> Answer
-        ensures { λ r. ⌜ (now (self .exit) ≡ doneOf (stepOf (now (self .entry)) (stepFor call (now (f .entry)) (now (room .entry)))) .next) × (r ≡ doneOf (stepOf (now (self .entry)) (stepFor call (now (f .entry)) (now (room .entry)))) .answer) × (now (room .exit) ≡ roomFor (now (self .entry)) call (now (room .entry))) ⌝ }
+    // What the call changes, the frame being a value.
+    pub(crate) fn plan_framed(self, call: Call, f: FrameBytes, room: &mut [u8]) -> Change
+        ensures { λ x. ⌜ changed self x ≡ doneOf (stepOf self (stepFor call (bytesIn f) (now (room .entry)))) ⌝ }
+        ensures { λ _. ⌜ now (room .exit) ≡ roomFor self call (now (room .entry)) ⌝ }
     {
-        let out = (*self).step(call, f, room);
-        *self = out.next;
-        out.answer
+        let b = f.bytes;
+        if f.size < 30 {
+            let n = f.size as usize;
+            return self.plan(call, &b[..n], room);
+        }
+        self.plan(call, &b, room)
+    }
+
+    // The step on a lent record, changed in place. A call that touches no buffer's bytes writes the control state alone.
+    pub fn step_in_place(&mut self, call: Call, f: FrameBytes, room: &mut [u8]) -> Answer
+        ensures { λ r. ⌜ (now (self .exit) ≡ doneOf (stepOf (now (self .entry)) (stepFor call (bytesIn f) (now (room .entry)))) .next) × (r ≡ doneOf (stepOf (now (self .entry)) (stepFor call (bytesIn f) (now (room .entry)))) .answer) × (now (room .exit) ≡ roomFor (now (self .entry)) call (now (room .entry))) ⌝ }
+    {
+        let x = (*self).plan_framed(call, f, room);
+        if x.place == 16 {
+            *self = (*self).with_control(x.control);
+        } else {
+            *self = (*self).after(x);
+        }
+        x.answer
     }
 }

@@ -33,9 +33,13 @@ lowestWith rows m i = lowest (carriesAt rows m i) 0 16
 unfoldable pub highestWith : List Contents → ℕ → ℕ → ℕ
 highestWith rows m i = highest (carriesAt rows m i) 16
 
--- the mask of the buffers that have an identifier
-unfoldable pub namedOf : List Contents → ℕ
-namedOf rows = maskOf (namedAt rows)
+-- buffer n is in the mask m and has an identifier
+unfoldable pub isNamedIn : List Contents → ℕ → ℕ → Bool
+isNamedIn rows m n = bitOf m n && namedAt rows n
+
+-- the mask of the buffers of the mask m that have an identifier
+unfoldable pub namedOf : List Contents → ℕ → ℕ
+namedOf rows m = maskOf (isNamedIn rows m)
 
 -- ---- what is found
 
@@ -72,14 +76,14 @@ highest-with-holds rows m i h =
 
 -- ---- the mask of the named
 
-pub named-lt : (rows : List Contents) → namedOf rows < 65536
+pub named-lt : (rows : List Contents) (m : ℕ) → namedOf rows m < 65536
 unfolding namedOf
-named-lt rows = mask-lt (namedAt rows)
+named-lt rows m = mask-lt (isNamedIn rows m)
 
-pub named-by : (rows : List Contents) → namedOf rows ≡ maskOf (namedAt rows)
-unfolding namedOf
-named-by rows = refl
+pub named-by : (rows : List Contents) (m : ℕ) → namedOf rows m ≡ maskOf (λ n. bitOf m n && namedAt rows n)
+unfolding namedOf isNamedIn
+named-by rows m = refl
 
-pub named-bit : (rows : List Contents) (n : ℕ) → n < 16 → bitOf (namedOf rows) n ≡ namedAt rows n
-unfolding namedOf
-named-bit rows n h = bit-mask (namedAt rows) n h
+pub named-bit : (rows : List Contents) (m n : ℕ) → n < 16 → bitOf (namedOf rows m) n ≡ (bitOf m n && namedAt rows n)
+unfolding namedOf isNamedIn
+named-bit rows m n h = bit-mask (isNamedIn rows m) n h

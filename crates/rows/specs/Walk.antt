@@ -1,16 +1,59 @@
--- The walks over the sixteen buffers: the test of one buffer by parts, and a mask that is gathered on a walk upwards.
-use Prim.Native.Nat.{ℕ, zero, suc, _+_, _≤_}
+-- The walks over the buffers of a mask: what is left of the mask, the test of one buffer by parts, the searches upwards,
+-- and a mask that is gathered.
+use Prim.Native.Nat.{ℕ, zero, suc, _+_, _-_, _/_, _%_, _^_, _<_, _≤_}
 use mathlib.Core.Bool.{Bool, true, false, not, _&&_, _||_}
 use mathlib.Core.List.{List}
 use mathlib.Core.Path.{_≡_, refl, ap, ap₂, sym, _∙_}
+use native.Mathlib.Nat.{le-refl}
+use native.Mathlib.Numerals.{add-one}
 use native.Mathlib.Omega.{arith}
 use borrow.Author.Tests.{eq-eqb, ne-eqb, eqb-true, eqb-false, lt-ltb, le-ltb, ltb-true, ltb-false}
 use lib.Dec.{eqb, ltb}
-use Rattle.masks.specs.Pick.{pick-false, by-test}
-use Rattle.masks.specs.Bits.{bitOf, maskOf, highest}
+use lib.Pow.{shr-shr}
+use Rattle.masks.specs.Pick.{pick-true, pick-false, by-test}
+use Rattle.masks.specs.Bits.{bitOf, maskOf, lowest, highest}
 use Rattle.masks.specs.Laws.{bit-none, bit-mask, mask-of, same-mask}
 use Rattle.contents.specs.declared.Contents.{Contents}
-use Rattle.rows.specs.Search.{identAt, carriesAt, namedAt, highestWith}
+use Rattle.rows.specs.Search.{identAt, carriesAt, namedAt, isNamedIn}
+
+-- ---- what is left of a mask from bit n on
+
+pub rest-start : (m : ℕ) → m ≡ m / 2 ^ 0
+rest-start m = omega arith
+
+-- after bit 15 nothing is left
+rest-end : (m : ℕ) → m < 65536 → m / 2 ^ 16 ≡ 0
+rest-end m h = omega arith
+
+module _ (m n rest : ℕ) (left : rest ≡ m / 2 ^ n) where
+  -- half of it is left from the next bit on
+  pub rest-step : rest / 2 ≡ m / 2 ^ (n + 1)
+  rest-step = ap (λ (x : ℕ). x / 2) left ∙ shr-shr m n 1
+
+  -- where something is left, n is a buffer
+  pub rest-more : m < 65536 → n ≤ 16 → (rest ≡ 0 → ⊥) → n < 16
+  rest-more h l e =
+      by-test (eqb n 16)
+      (λ t. absurd (e (left ∙ ap (λ (k : ℕ). m / 2 ^ k) (eqb-true n 16 t) ∙ rest-end m h)))
+      (λ t. let away = eqb-false n 16 t in omega (arith, away))
+
+  -- its lowest bit is bit n
+  pub rest-in : rest % 2 ≡ 1 → bitOf m n ≡ true
+  unfolding bitOf
+  rest-in e = eq-eqb (m / 2 ^ n % 2) 1 (ap (λ (x : ℕ). x % 2) (sym left) ∙ e)
+
+  pub rest-out : (rest % 2 ≡ 1 → ⊥) → bitOf m n ≡ false
+  unfolding bitOf
+  rest-out e = ne-eqb (m / 2 ^ n % 2) 1 (λ q. e (ap (λ (x : ℕ). x % 2) left ∙ q))
+
+  -- where nothing is left, no bit from n on is set
+  pub rest-none : rest ≡ 0 → (k : ℕ) → n ≤ k → bitOf m k ≡ false
+  unfolding bitOf
+  rest-none e k l =
+      let more : k ≡ n + (k - n) = omega arith in
+      let empty : m / 2 ^ k ≡ 0 / 2 ^ (k - n) =
+      ap (λ (j : ℕ). m / 2 ^ j) more ∙ sym (shr-shr m n (k - n)) ∙ ap (λ (x : ℕ). x / 2 ^ (k - n)) (sym left ∙ e) in
+      ap (λ (x : ℕ). eqb (x % 2) 1) empty ∙ bit-none (k - n)
 
 -- ---- the test of one buffer
 
@@ -30,18 +73,6 @@ pub carries-other : (rows : List Contents) (m i n : ℕ) → (identAt rows n ≡
 unfolding carriesAt
 carries-other rows m i n e = ap (λ (t : Bool). bitOf m n && t) (ne-eqb (identAt rows n) i e) ∙ and-false (bitOf m n)
 
--- where nothing passes, nothing is found
-highest-nothing : (f : ℕ → Bool) (k : ℕ) → ((n : ℕ) → f n ≡ false) → highest f k ≡ 16
-unfolding highest
-highest-nothing f zero e = refl
-highest-nothing f (suc k) e = pick-false (f k) k (highest f k) (e k) ∙ highest-nothing f k e
-
--- nothing is found in the empty mask
-pub highest-with-none : (rows : List Contents) (m i : ℕ) → m ≡ 0 → highestWith rows m i ≡ 16
-unfolding highestWith
-highest-with-none rows m i e =
-    highest-nothing (carriesAt rows m i) 16 (λ n. carries-outside rows m i n (ap (λ (x : ℕ). bitOf x n) e ∙ bit-none n))
-
 pub named-here : (rows : List Contents) (n : ℕ) → (identAt rows n ≡ 0 → ⊥) → namedAt rows n ≡ true
 unfolding namedAt
 named-here rows n e = ap not (ne-eqb (identAt rows n) 0 e)
@@ -49,6 +80,47 @@ named-here rows n e = ap not (ne-eqb (identAt rows n) 0 e)
 pub named-not : (rows : List Contents) (n : ℕ) → identAt rows n ≡ 0 → namedAt rows n ≡ false
 unfolding namedAt
 named-not rows n e = ap not (eq-eqb (identAt rows n) 0 e)
+
+pub named-in : (rows : List Contents) (m n : ℕ) → bitOf m n ≡ true → namedAt rows n ≡ true → isNamedIn rows m n ≡ true
+unfolding isNamedIn
+named-in rows m n b e = ap₂ _&&_ b e
+
+pub named-outside : (rows : List Contents) (m n : ℕ) → bitOf m n ≡ false → isNamedIn rows m n ≡ false
+unfolding isNamedIn
+named-outside rows m n b = ap (λ (t : Bool). t && namedAt rows n) b
+
+pub named-none : (rows : List Contents) (m n : ℕ) → namedAt rows n ≡ false → isNamedIn rows m n ≡ false
+unfolding isNamedIn
+named-none rows m n e = ap (λ (t : Bool). bitOf m n && t) e ∙ and-false (bitOf m n)
+
+-- ---- the searches on a walk upwards
+
+-- where nothing passes from i on, nothing is found there
+pub lowest-rest : (f : ℕ → Bool) (i k : ℕ) → ((n : ℕ) → i ≤ n → f n ≡ false) → lowest f i k ≡ 16
+unfolding lowest
+lowest-rest f i zero e = refl
+lowest-rest f i (suc k) e =
+    pick-false (f i) i (lowest f (suc i) k) (e i (le-refl i)) ∙ lowest-rest f (suc i) k (λ n l. e n (omega arith))
+
+-- k passes, and is the highest so far
+pub highest-more : (f : ℕ → Bool) (k : ℕ) → f k ≡ true → highest f (k + 1) ≡ k
+unfolding highest
+highest-more f k e = ap (highest f) (add-one k) ∙ pick-true (f k) k (highest f k) e
+
+-- k does not pass
+pub highest-same : (f : ℕ → Bool) (k : ℕ) → f k ≡ false → highest f (k + 1) ≡ highest f k
+unfolding highest
+highest-same f k e = ap (highest f) (add-one k) ∙ pick-false (f k) k (highest f k) e
+
+-- where nothing passes from k on, the highest below k is the highest of all
+pub highest-rest : (f : ℕ → Bool) (k w : ℕ) → k ≤ w → ((n : ℕ) → k ≤ n → f n ≡ false) → highest f w ≡ highest f k
+unfolding highest
+highest-rest f k zero l e = let none : k ≡ 0 = omega arith in ap (highest f) (sym none)
+highest-rest f k (suc w) l e =
+    by-test (eqb k (suc w))
+    (λ t. ap (highest f) (sym (eqb-true k (suc w) t)))
+    (λ t. let away = eqb-false k (suc w) t in let below : k ≤ w = omega (arith, away) in
+    pick-false (f w) w (highest f w) (e w below) ∙ highest-rest f k w below e)
 
 -- ---- a mask gathered on a walk upwards
 
@@ -104,8 +176,12 @@ up-miss f k m p h =
     ∙ same-mask (λ n. ltb n k && f n) (λ n. ltb n (k + 1) && f n)
     (λ n l. more-false (ltb n k) (eqb n k) (f n) (λ e. ap f (eqb-true n k e) ∙ h) ∙ ap (λ (t : Bool). t && f n) (sym (ltb-more n k)))
 
--- all are gathered
-pub up-all : (f : ℕ → Bool) (k m : ℕ) → 16 ≤ k → m ≡ upTo f k → m ≡ maskOf f
+-- where nothing passes from k on, all are gathered
+pub up-rest : (f : ℕ → Bool) (k m : ℕ) → ((n : ℕ) → k ≤ n → f n ≡ false) → m ≡ upTo f k → m ≡ maskOf f
 unfolding upTo
-up-all f k m h p =
-    p ∙ same-mask (λ n. ltb n k && f n) f (λ n l. ap (λ (t : Bool). t && f n) (lt-ltb n k (omega arith)))
+up-rest f k m e p =
+    p
+    ∙ same-mask (λ n. ltb n k && f n) f
+    (λ n l. by-test (ltb n k)
+    (λ t. ap (λ (b : Bool). b && f n) t)
+    (λ t. ap (λ (b : Bool). b && f n) t ∙ sym (e n (ltb-false n k t))))

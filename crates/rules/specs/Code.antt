@@ -39,11 +39,15 @@ rulingOf p = record { next = p .control; verdict = verdictOf (p .moves) (p .repl
 unfoldable pub isNamed : List Head → ℕ → Bool
 isNamed hs n = not (eqb (headAt hs n .ident) 0)
 
+-- the full transmit buffers with an identifier: only these can be armed
+unfoldable pub isReady : Control → List Head → ℕ → Bool
+isReady c hs n = isFullTransmit c n && isNamed hs n
+
 -- what a sync arms of the buffers m
 unfoldable pub armsOf : Control → ℕ → ℕ → Bool
 armsOf c m n = isFullTransmit c n && not (isLocked c n) && bitOf m n
 
--- a sync, the buffers with an identifier being m
+-- a sync, the full transmit buffers with an identifier being m
 unfoldable pub syncedOf : SyncKind → Control → ℕ → Control
 syncedOf k c m =
     withBuffers (withEvents (withMode c (withLast (withSynced (c .mode) true) 0)) (syncEvents k (c .events)))

@@ -16,7 +16,7 @@ use Rattle.rules.specs.Plan.{store, say, send, Plan, plain}
 use Rattle.rules.specs.Rules.{onBus, wakes, sleepsOn}
 use Rattle.rules.specs.Kinds.{isFullTransmit, isLocked}
 use Rattle.rules.specs.Bus.{woken, arms, synced, dueKind, dueSync, toBuffer, fifoTakes, toFifo, raiseLast, found, judged, sendFrom, slotFor}
-use Rattle.rules.specs.Code.{isNamed, armsOf, syncedOf, dueOf}
+use Rattle.rules.specs.Code.{isNamed, isReady, armsOf, syncedOf, dueOf}
 
 -- a plan that its ruling says whole
 pub data Simple : Plan → Type 0 where
@@ -24,20 +24,26 @@ pub data Simple : Plan → Type 0 where
   stores : (c : Control) (n : ℕ) (a : Answer) → Simple (record { control = c; moves = store n ∷ []; reply = say a })
   sends : (c : Control) (n : ℕ) → Simple (record { control = c; moves = []; reply = send n })
 
--- ---- the buffers with an identifier, as a mask
+-- ---- the full transmit buffers with an identifier, as a mask
 
-arms-named : (c : Control) (hs : List Head) (m n : ℕ) → m ≡ maskOf (isNamed hs) → n < 16 → armsOf c m n ≡ arms c hs n
-unfolding armsOf arms isNamed
-arms-named c hs m n e h =
-    ap (λ (t : Bool). isFullTransmit c n && not (isLocked c n) && t) (ap (λ (x : ℕ). bitOf x n) e ∙ bit-mask (isNamed hs) n h)
+-- a is asked twice
+twice : (a b x : Bool) → (a && b && (a && x)) ≡ (a && b && x)
+twice true b x = refl
+twice false b x = refl
 
-pub synced-named : (k : SyncKind) (c : Control) (hs : List Head) (m : ℕ) → m ≡ maskOf (isNamed hs) → syncedOf k c m ≡ synced k c hs
+arms-ready : (c : Control) (hs : List Head) (m n : ℕ) → m ≡ maskOf (isReady c hs) → n < 16 → armsOf c m n ≡ arms c hs n
+unfolding armsOf arms isReady isNamed
+arms-ready c hs m n e h =
+    ap (λ (t : Bool). isFullTransmit c n && not (isLocked c n) && t) (ap (λ (x : ℕ). bitOf x n) e ∙ bit-mask (isReady c hs) n h)
+    ∙ twice (isFullTransmit c n) (not (isLocked c n)) (isNamed hs n)
+
+pub synced-ready : (k : SyncKind) (c : Control) (hs : List Head) (m : ℕ) → m ≡ maskOf (isReady c hs) → syncedOf k c m ≡ synced k c hs
 unfolding syncedOf synced
-synced-named k c hs m e = simp (same-mask (armsOf c m) (arms c hs) (λ n h. arms-named c hs m n e h))
+synced-ready k c hs m e = simp (same-mask (armsOf c m) (arms c hs) (λ n h. arms-ready c hs m n e h))
 
-pub due-named : (c : Control) (hs : List Head) (m : ℕ) → m ≡ maskOf (isNamed hs) → dueOf c m ≡ dueSync c hs
+pub due-ready : (c : Control) (hs : List Head) (m : ℕ) → m ≡ maskOf (isReady c hs) → dueOf c m ≡ dueSync c hs
 unfolding dueOf dueSync
-due-named c hs m e = simp (synced-named (dueKind c) c hs m e)
+due-ready c hs m e = simp (synced-ready (dueKind c) c hs m e)
 
 -- ---- the plans of the bus are simple
 

@@ -1,7 +1,7 @@
 // Bus steps on the control state.
 ghost use mathlib.Core.Path.{_≡_};
 ghost use Rattle.masks.specs.Bits.{maskOf};
-ghost use Rattle.rules.specs.Kinds.{isLocked};
+ghost use Rattle.rules.specs.Kinds.{isLocked, isFullTransmit};
 ghost use Rattle.rules.specs.Plan.{plain};
 ghost use Rattle.rules.specs.Bus.{raiseGisr, raiseRisr, woken, syncFlag, syncEvents, dueKind, timedOut, lostEvents, faulted, toBuffer, fifoTakes, withEntry, toFifo, raiseLast, found, judged, sentFrom, sendFrom, slotFor};
 ghost use Rattle.rules.specs.Rules.{onBus, wakes, sleepsOn};
@@ -121,7 +121,15 @@ impl Control {
         rx.locked_mask() | tx.locked_mask() | entry
     }
 
-    // What a sync arms of the buffers m, those with an identifier.
+    // The full transmit buffers.
+    pub fn full(self) -> u16
+        ensures { λ r. ⌜ r ≡ maskOf (isFullTransmit self) ⌝ }
+    {
+        let b = self.buffers;
+        b.cfg & !b.iflg
+    }
+
+    // What a sync arms of the buffers m, the full transmit buffers with an identifier.
     fn arming(self, m: u16) -> u16
         ensures { λ r. ⌜ r ≡ maskOf (armsOf self m) ⌝ }
     {
@@ -129,7 +137,7 @@ impl Control {
         b.cfg & !b.iflg & !self.locked_mask() & m
     }
 
-    // A sync, m being the buffers with an identifier.
+    // A sync, m being the full transmit buffers with an identifier.
     pub fn synced(self, k: SyncKind, m: u16) -> Control
         ensures { λ r. ⌜ r ≡ syncedOf k self m ⌝ }
     {
@@ -347,7 +355,7 @@ impl Control {
         self.slot_for(i, n)
     }
 
-    // A sync, m being the buffers with an identifier.
+    // A sync, m being the full transmit buffers with an identifier.
     pub fn on_sync(self, k: SyncKind, m: u16) -> Ruling
         ensures { λ r. ⌜ r ≡ rulingOf (wakes self (plain (syncedOf k self m) Ok)) ⌝ }
     {

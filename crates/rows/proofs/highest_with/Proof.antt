@@ -1,34 +1,25 @@
-use Prim.Native.Nat.{_≤_, _-_}
-use mathlib.Core.Bool.{true, false}
-use mathlib.Core.Path.{_≡_, refl, ap, sym, _∙_}
+use Prim.Native.Nat.{_≤_, _/_, _^_, _<_}
+use mathlib.Core.Logic.{⊎-elim}
+use mathlib.Core.Path.{_≡_, sym, _∙_}
 use native.Mathlib.Omega.{arith}
 use borrow.Author.Needs.{needs}
 use Rattle.masks.specs.Bits.{highest}
-use Rattle.masks.specs.Search.{highest-hit, highest-miss, highest-end}
+use Rattle.masks.specs.Search.{highest-end}
 use Rattle.rows.specs.Search.{carriesAt, highestWith}
-use Rattle.rows.specs.Walk.{carries-here, carries-outside, carries-other, highest-with-none}
+use Rattle.rows.specs.Walk.{rest-start, rest-step, rest-more, rest-in, rest-out, rest-none, carries-here, carries-outside, carries-other, highest-more, highest-same, highest-rest}
 use Rattle.rows.proofs.highest_with.Statement.{statement}
 use Rattle.rows.proofs.highest_with.Tie as tie
 
--- the search of all is the search below k
+-- what is found so far is the highest below k
 abbrev Inv-loop : tie.InvT-loop
-Inv-loop m i rows k₀ k = (k ≤ 16) × (highestWith rows m i ≡ highest (carriesAt rows m i) k)
+Inv-loop m i rows found₀ rest₀ k₀ found rest k =
+    (k ≤ 16) × (rest ≡ m / 2 ^ k) × (found ≡ highest (carriesAt rows m i) k)
 
 abbrev μ-loop : tie.MeasureT-loop
-μ-loop m i rows k₀ k = k
-
-returns : tie.Need-returns Inv-loop μ-loop
-returns c = sym (highest-with-none _ _ _ (c .if1 .taken))
+μ-loop m i rows found₀ rest₀ k₀ found rest k = rest
 
 loop-holds : tie.Need-loop-holds Inv-loop μ-loop
-unfolding highestWith
-loop-holds c = (omega arith, refl)
-
-sub-k : tie.Need-sub-k Inv-loop μ-loop
-sub-k c = search needs
-
-test-requires : tie.Need-test-requires Inv-loop μ-loop
-test-requires c κs = search needs
+loop-holds c = (omega arith, rest-start _, sym (highest-end _))
 
 cast-b : tie.Need-cast-b Inv-loop μ-loop
 cast-b c = search needs
@@ -37,55 +28,50 @@ mul-b : tie.Need-mul-b Inv-loop μ-loop
 mul-b c = search needs
 
 array-copy-out-b : tie.Need-array-copy-out-b Inv-loop μ-loop
-array-copy-out-b c = search needs
+array-copy-out-b c =
+    let at = c .before .before in
+    let inside : at .loop .k < 16 = rest-more (at .before .args .m) _ _ (at .loop .inv .1) (omega arith) (omega arith) (c .before .loop-test .taken) in
+    search needs
 
 ident-requires : tie.Need-ident-requires Inv-loop μ-loop
 ident-requires c κs = search needs
 
-returns-2 : tie.Need-returns-2 Inv-loop μ-loop
-returns-2 c =
-    let in-mask = c .before .before .before in
-    let at = in-mask .before .before .before in
-    let rows = at .before .before .args .t1 in
-    let m = at .before .before .args .m in
-    let i = at .before .before .args .i in
-    let n = at .loop .k - 1 in
-    let found : carriesAt rows m i n ≡ true =
-    carries-here rows m i n (sym (in-mask .before .test .ensures) ∙ in-mask .if2 .taken) (sym (c .before .ident .ensures) ∙ c .if3 .taken) in
-    sym (at .loop .inv .1 ∙ highest-hit (carriesAt rows m i) (at .loop .k) (omega arith) found)
+add-k : tie.Need-add-k Inv-loop μ-loop
+add-k c = search needs
 
 loop-less : tie.Need-loop-less Inv-loop μ-loop
 loop-less c = search needs
 
--- in the mask, with another identifier
 loop-again : tie.Need-loop-again Inv-loop μ-loop
 loop-again c =
-    let at = c .before .before .before .before .before .before in
-    let rows = at .before .before .args .t1 in
-    let m = at .before .before .args .m in
-    let i = at .before .before .args .i in
-    let n = at .loop .k - 1 in
-    let missed : carriesAt rows m i n ≡ false = carries-other rows m i n (λ e. c .if3 .left (c .before .ident .ensures ∙ e)) in
-    (omega arith, at .loop .inv .1 ∙ highest-miss (carriesAt rows m i) (at .loop .k) (omega arith) missed)
+    let at = c .before .before in
+    let rows = at .before .args .t1 in
+    let m = at .before .args .m in
+    let i = at .before .args .i in
+    let k = at .loop .k in
+    let rest = at .loop .rest in
+    let left = at .loop .inv .1 in
+    let inside : k < 16 = rest-more m k rest left (omega arith) (omega arith) (c .before .loop-test .taken) in (
+      omega arith,
+      rest-step m k rest left,
+      ⊎-elim
+          (λ w. w .4 ∙ sym (highest-more (carriesAt rows m i) k (carries-here rows m i k (rest-in m k rest left (w .0 .taken)) (sym (w .2 .ensures) ∙ w .3 .taken))))
+          (⊎-elim
+          (λ w. w .4 ∙ at .loop .inv .2 ∙ sym (highest-same (carriesAt rows m i) k (carries-other rows m i k (λ e. w .3 .left (w .2 .ensures ∙ e)))))
+          (λ w. w .1 ∙ at .loop .inv .2 ∙ sym (highest-same (carriesAt rows m i) k (carries-outside rows m i k (rest-out m k rest left (w .0 .left))))))
+          (c .if1 .came),
+    )
 
-loop-less-2 : tie.Need-loop-less-2 Inv-loop μ-loop
-loop-less-2 c = search needs
-
--- outside the mask
-loop-again-2 : tie.Need-loop-again-2 Inv-loop μ-loop
-loop-again-2 c =
-    let at = c .before .before .before in
-    let rows = at .before .before .args .t1 in
-    let m = at .before .before .args .m in
-    let i = at .before .before .args .i in
-    let n = at .loop .k - 1 in
-    let missed : carriesAt rows m i n ≡ false = carries-outside rows m i n (sym (c .before .test .ensures) ∙ c .if2 .left) in
-    (omega arith, at .loop .inv .1 ∙ highest-miss (carriesAt rows m i) (at .loop .k) (omega arith) missed)
-
-returns-3 : tie.Need-returns-3 Inv-loop μ-loop
-returns-3 c =
-    let none : c .before .loop .k ≡ 0 = omega arith in
-    sym (c .before .loop .inv .1 ∙ ap (highest _) none ∙ highest-end _)
+returns : tie.Need-returns Inv-loop μ-loop
+unfolding highestWith
+returns c =
+    let at = c .before in
+    let rows = at .before .args .t1 in
+    let m = at .before .args .m in
+    let i = at .before .args .i in
+    let k = at .loop .k in
+    at .loop .inv .2
+    ∙ sym (highest-rest (carriesAt rows m i) k 16 (omega arith) (λ n l. carries-outside rows m i n (rest-none m k (at .loop .rest) (at .loop .inv .1) (c .loop-test .left) n l)))
 
 pub highest-with-spec : {M : Type 1} → statement M
 highest-with-spec =
@@ -93,17 +79,12 @@ highest-with-spec =
     (tie.spec
     Inv-loop
     μ-loop
-    returns
     loop-holds
-    sub-k
-    test-requires
     cast-b
     mul-b
     array-copy-out-b
     ident-requires
-    returns-2
+    add-k
     loop-less
     loop-again
-    loop-less-2
-    loop-again-2
-    returns-3)
+    returns)

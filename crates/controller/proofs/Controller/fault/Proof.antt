@@ -1,25 +1,16 @@
-use mathlib.Core.List.{[]}
-use mathlib.Core.Path.{sym, ap, _∙_}
+use mathlib.Core.Path.{_∙_}
 use borrow.Author.Needs.{needs}
-use Rattle.controller.specs.Code.{ruled}
-use Rattle.controller.specs.CodeLaws.{fault-step}
 use Rattle.controller.proofs.Controller.fault.Statement.{statement}
 use Rattle.controller.proofs.Controller.fault.Tie as tie
 
-on-fault-requires : tie.Need-on-fault-requires
-on-fault-requires c κs = search needs
+plan-fault-requires : tie.Need-plan-fault-requires
+plan-fault-requires c κs = search needs
 
-slice-aggregate-ruled : tie.Need-slice-aggregate-ruled
-slice-aggregate-ruled c = search needs
-
-ruled-requires : tie.Need-ruled-requires
-ruled-requires c κs = search needs
+carried-requires : tie.Need-carried-requires
+carried-requires c κs = search needs
 
 returns : tie.Need-returns
-returns c =
-    let a = c .before .before .before .before .args in
-    c .ruled .ensures ∙ ap (ruled (a .self) []) (c .before .before .on-fault .ensures)
-    ∙ sym (fault-step (a .self) (a .k))
+returns c = c .carried .ensures ∙ c .before .plan-fault .ensures
 
 pub fault-spec : {M : Type 1} → statement M
-fault-spec = tie.close (tie.spec on-fault-requires slice-aggregate-ruled ruled-requires returns)
+fault-spec = tie.close (tie.spec plan-fault-requires carried-requires returns)

@@ -1,30 +1,16 @@
-use mathlib.Core.List.{[]}
-use mathlib.Core.Path.{sym, ap, _∙_}
+use mathlib.Core.Path.{_∙_}
 use borrow.Author.Needs.{needs}
-use Rattle.controller.specs.Code.{ruled}
-use Rattle.controller.specs.CodeLaws.{sync-step}
 use Rattle.controller.proofs.Controller.sync.Statement.{statement}
 use Rattle.controller.proofs.Controller.sync.Tie as tie
 
-named-requires : tie.Need-named-requires
-named-requires c κs = search needs
+plan-sync-requires : tie.Need-plan-sync-requires
+plan-sync-requires c κs = search needs
 
-on-sync-requires : tie.Need-on-sync-requires
-on-sync-requires c κs = search needs
-
-slice-aggregate-ruled : tie.Need-slice-aggregate-ruled
-slice-aggregate-ruled c = search needs
-
-ruled-requires : tie.Need-ruled-requires
-ruled-requires c κs = search needs
+carried-requires : tie.Need-carried-requires
+carried-requires c κs = search needs
 
 returns : tie.Need-returns
-returns c =
-    let a = c .before .before .before .before .before .args in
-    c .ruled .ensures ∙ ap (ruled (a .self) []) (c .before .before .on-sync .ensures)
-    ∙ sym (sync-step (a .self) (a .k) _ (c .before .before .before .named .ensures))
+returns c = c .carried .ensures ∙ c .before .plan-sync .ensures
 
 pub sync-spec : {M : Type 1} → statement M
-sync-spec =
-    tie.close
-    (tie.spec named-requires on-sync-requires slice-aggregate-ruled ruled-requires returns)
+sync-spec = tie.close (tie.spec plan-sync-requires carried-requires returns)

@@ -1,30 +1,16 @@
-use mathlib.Core.List.{[]}
-use mathlib.Core.Path.{sym, ap, _∙_}
+use mathlib.Core.Path.{_∙_}
 use borrow.Author.Needs.{needs}
-use Rattle.controller.specs.Code.{ruled}
-use Rattle.controller.specs.CodeLaws.{due-step}
 use Rattle.controller.proofs.Controller.sync_due.Statement.{statement}
 use Rattle.controller.proofs.Controller.sync_due.Tie as tie
 
-named-requires : tie.Need-named-requires
-named-requires c κs = search needs
+plan-due-requires : tie.Need-plan-due-requires
+plan-due-requires c κs = search needs
 
-on-due-requires : tie.Need-on-due-requires
-on-due-requires c κs = search needs
-
-slice-aggregate-ruled : tie.Need-slice-aggregate-ruled
-slice-aggregate-ruled c = search needs
-
-ruled-requires : tie.Need-ruled-requires
-ruled-requires c κs = search needs
+carried-requires : tie.Need-carried-requires
+carried-requires c κs = search needs
 
 returns : tie.Need-returns
-returns c =
-    let a = c .before .before .before .before .before .args in
-    c .ruled .ensures ∙ ap (ruled (a .self) []) (c .before .before .on-due .ensures)
-    ∙ sym (due-step (a .self) _ (c .before .before .before .named .ensures))
+returns c = c .carried .ensures ∙ c .before .plan-due .ensures
 
 pub sync-due-spec : {M : Type 1} → statement M
-sync-due-spec =
-    tie.close
-    (tie.spec named-requires on-due-requires slice-aggregate-ruled ruled-requires returns)
+sync-due-spec = tie.close (tie.spec plan-due-requires carried-requires returns)

@@ -1,26 +1,16 @@
-use mathlib.Core.List.{[]}
-use mathlib.Core.Path.{sym, ap, _∙_}
+use mathlib.Core.Path.{_∙_}
 use borrow.Author.Needs.{needs}
-use Rattle.controller.specs.Code.{ruled}
-use Rattle.controller.specs.CodeLaws.{timeout-step}
 use Rattle.controller.proofs.Controller.timeout.Statement.{statement}
 use Rattle.controller.proofs.Controller.timeout.Tie as tie
 
-on-timeout-requires : tie.Need-on-timeout-requires
-on-timeout-requires c κs = search needs
+plan-timeout-requires : tie.Need-plan-timeout-requires
+plan-timeout-requires c κs = search needs
 
-slice-aggregate-ruled : tie.Need-slice-aggregate-ruled
-slice-aggregate-ruled c = search needs
-
-ruled-requires : tie.Need-ruled-requires
-ruled-requires c κs = search needs
+carried-requires : tie.Need-carried-requires
+carried-requires c κs = search needs
 
 returns : tie.Need-returns
-returns c =
-    let a = c .before .before .before .before .args in
-    c .ruled .ensures ∙ ap (ruled (a .self) []) (c .before .before .on-timeout .ensures)
-    ∙ sym (timeout-step (a .self))
+returns c = c .carried .ensures ∙ c .before .plan-timeout .ensures
 
 pub timeout-spec : {M : Type 1} → statement M
-timeout-spec =
-    tie.close (tie.spec on-timeout-requires slice-aggregate-ruled ruled-requires returns)
+timeout-spec = tie.close (tie.spec plan-timeout-requires carried-requires returns)

@@ -1,45 +1,16 @@
-use Prim.Native.Nat.{ℕ}
-use mathlib.Core.Path.{sym, ap, _∙_}
+use mathlib.Core.Path.{_∙_}
 use borrow.Author.Needs.{needs}
-use Rattle.rules.specs.declared.Answer.the-variants.{Refused}
-use Rattle.controller.specs.Code.{answered}
-use Rattle.controller.specs.CodeLaws.{write-step, write-refused}
 use Rattle.controller.proofs.Controller.write.Statement.{statement}
 use Rattle.controller.proofs.Controller.write.Tie as tie
 
-write-refusal-requires : tie.Need-write-refusal-requires
-write-refusal-requires c κs = search needs
+plan-write-requires : tie.Need-plan-write-requires
+plan-write-requires c κs = search needs
+
+carried-requires : tie.Need-carried-requires
+carried-requires c κs = search needs
 
 returns : tie.Need-returns
-returns c =
-    let start = c .before .before .before .args in
-    let refusal = c .before .write-refusal .ensures in
-    ap (λ (k : ℕ). answered (start .self) (Refused k)) refusal
-    ∙ sym (write-refused (start .self) (start .a) (start .v) (λ e. c .if1 .taken (refusal ∙ e)))
-
-register-at-requires : tie.Need-register-at-requires
-register-at-requires c κs = search needs
-
-written-requires : tie.Need-written-requires
-written-requires c κs = search needs
-
-write-rows-requires : tie.Need-write-rows-requires
-write-rows-requires c κs = search needs
-
-returns-2 : tie.Need-returns-2
-returns-2 c =
-    let start = c .before .before .before .before .before .before .args in
-    let none = sym (c .before .before .before .before .write-refusal .ensures) ∙ c .before .before .before .if1 .left in
-    simp (c .before .written .ensures, c .write-rows .ensures, c .before .before .register-at .ensures)
-    (sym (write-step (start .self) (start .a) (start .v) none))
+returns c = c .carried .ensures ∙ c .before .plan-write .ensures
 
 pub write-spec : {M : Type 1} → statement M
-write-spec =
-    tie.close
-    (tie.spec
-    write-refusal-requires
-    returns
-    register-at-requires
-    written-requires
-    write-rows-requires
-    returns-2)
+write-spec = tie.close (tie.spec plan-write-requires carried-requires returns)

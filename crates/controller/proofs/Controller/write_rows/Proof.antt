@@ -1,8 +1,10 @@
-use mathlib.Core.Path.{ap}
 use mathlib.Core.List.{List}
+use mathlib.Core.Path.{ap, _∙_}
 use borrow.Author.Needs.{needs}
 use Rattle.contents.specs.declared.Contents.{Contents}
+use Rattle.rules.specs.declared.Answer.the-variants.{Ok}
 use Rattle.controller.specs.Code.{writtenRows}
+use Rattle.controller.specs.CodeLaws.{says-only}
 use Rattle.controller.proofs.RegisterLaws.{other-rows}
 use Rattle.controller.proofs.Controller.write_rows.Statement.{statement}
 use Rattle.controller.proofs.Controller.write_rows.Tie as tie
@@ -19,6 +21,9 @@ enum-known-register-2 c = search needs
 write-window-requires-2 : tie.Need-write-window-requires-2
 write-window-requires-2 c κs = search needs
 
+with-answer-requires : tie.Need-with-answer-requires
+with-answer-requires c κs = search needs
+
 returns : tie.Need-returns
 unfolding writtenRows
 returns c = rw (c .before .before .register .given .1) (c .write-window .ensures)
@@ -29,8 +34,10 @@ returns-2 c = rw (c .before .before .register2 .given .1) (c .write-window2 .ens
 
 returns-3 : tie.Need-returns-3
 returns-3 c =
-    let start = c .before .before .args in
-    ap (λ (rows : List Contents). record { control = start .self .control; rows = rows }) (other-rows (start .self) (start .register) (start .v) (c .match .keys3))
+    let a = c .before .before .before .args in
+    says-only (a .self) _ (a .c) Ok (c .with-answer .ensures)
+    ∙ ap (λ (rows : List Contents). record { next = record { control = a .c; rows = rows }; answer = Ok })
+    (other-rows (a .self) (a .register) (a .v) (c .before .match .keys3))
 
 pub write-rows-spec : {M : Type 1} → statement M
 write-rows-spec =
@@ -40,6 +47,7 @@ write-rows-spec =
     write-window-requires
     enum-known-register-2
     write-window-requires-2
+    with-answer-requires
     returns
     returns-2
     returns-3)

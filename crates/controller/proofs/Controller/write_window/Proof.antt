@@ -1,42 +1,49 @@
+use mathlib.Core.List.{List}
+use mathlib.Core.Path.{sym, ap, _∙_}
 use borrow.Author.Needs.{needs}
-use Rattle.controller.specs.Code.{writeWindow}
-use Rattle.controller.proofs.RegisterLaws.{sixteen-rows, none-written}
+use Rattle.contents.specs.declared.Contents.{Contents}
+use Rattle.rules.specs.declared.Answer.the-variants.{Ok}
+use Rattle.controller.specs.CodeLaws.{says-only, places-one}
+use Rattle.controller.proofs.RegisterLaws.{sixteen-rows, none-written, written-in}
 use Rattle.controller.proofs.Controller.write_window.Statement.{statement}
 use Rattle.controller.proofs.Controller.write_window.Tie as tie
 
+with-answer-requires : tie.Need-with-answer-requires
+with-answer-requires c κs = search needs
+
 returns : tie.Need-returns
 returns c =
-    let start = c .before .args in
-    let sixteen = sixteen-rows (start .t1) _ (c .before .good .0) in
-    rw (none-written (start .t1 .rows) (start .n) (start .p) sixteen (c .if1 .taken) (start .v))
+    let start = c .before .before in
+    let a = start .args in
+    let sixteen = sixteen-rows (a .self) _ (start .good .0) in
+    says-only (a .self) _ (a .c) Ok (c .with-answer .ensures)
+    ∙ ap (λ (rows : List Contents). record { next = record { control = a .c; rows = rows }; answer = Ok })
+    (sym (none-written (a .self .rows) (a .n) (a .p) sixteen (c .before .if1 .taken) (a .v)))
 
-mul-row : tie.Need-mul-row
-mul-row c = search needs
-
-element-copy-out-row : tie.Need-element-copy-out-row
-element-copy-out-row c = search needs
+contents-of-requires : tie.Need-contents-of-requires
+contents-of-requires c κs = search needs
 
 write-place-requires : tie.Need-write-place-requires
 write-place-requires c κs = search needs
 
-mul-t12 : tie.Need-mul-t12
-mul-t12 c = search needs
-
-element-set-from-next : tie.Need-element-set-from-next
-element-set-from-next c = search needs
+with-bytes-requires : tie.Need-with-bytes-requires
+with-bytes-requires c κs = search needs
 
 returns-2 : tie.Need-returns-2
-unfolding writeWindow
-returns-2 c = rw (c .write-place .ensures)
+returns-2 c =
+    let a = c .before .before .before .before .args in
+    let low = c .before .before .before .if1 .left in
+    places-one (a .self) _ (a .c) Ok (a .n) _ (c .with-bytes .ensures) low
+    ∙ ap (λ (rows : List Contents). record { next = record { control = a .c; rows = rows }; answer = Ok })
+    (written-in (a .self .rows) (a .n) (a .p) (a .v) _ _ low (c .before .before .contents-of .ensures) (c .before .write-place .ensures))
 
 pub write-window-spec : {M : Type 1} → statement M
 write-window-spec =
     tie.close
     (tie.spec
+    with-answer-requires
     returns
-    mul-row
-    element-copy-out-row
+    contents-of-requires
     write-place-requires
-    mul-t12
-    element-set-from-next
+    with-bytes-requires
     returns-2)

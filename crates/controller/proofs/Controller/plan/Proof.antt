@@ -1,0 +1,31 @@
+use borrow.Author.Needs.{needs}
+use Rattle.controller.proofs.Controller.plan.Statement.{statement}
+use Rattle.controller.proofs.Controller.plan.Tie as tie
+
+-- a line a call, in the order of the match: first what it requires, then the record with its answer, and the room
+pub plan-spec : {M : Type 1} → statement M
+plan-spec =
+    tie.close
+    (tie.spec
+    (λ c. search needs) (λ c κs. search needs)
+    (λ c. search needs) (λ c κs. search needs)
+    (λ c. search needs) (λ c κs. search needs)
+    (λ c. search needs) (λ c κs. search needs)
+    (λ c. search needs) (λ c κs. search needs)
+    (λ c. search needs) (λ c κs. search needs)
+    (λ c. search needs) (λ c κs. search needs)
+    (λ c. search needs) (λ c κs. search needs)
+    (λ c. search needs) (λ c κs. search needs)
+    (λ c. let e = c .before .enum-told .given .1 in (rw e (c .plan-reset .ensures), rw e))
+    (λ c. let e = c .before .before .call .given .1 in (rw e (c .plan-read .ensures), rw e))
+    (λ c. let e = c .before .before .call2 .given .1 in (rw e (c .plan-write .ensures), rw e))
+    (λ c. let e = c .before .before .call3 .given .1 in (rw e (c .plan-sync .ensures), rw e))
+    (λ c. let e = c .before .enum-told2 .given .1 in (rw e (c .plan-due .ensures), rw e))
+    (λ c. search needs)
+    (λ c.
+    let e = c .before .before .before .before .before .call4 .given .1 in
+    let slot = c .before .before .plan-slot .ensures in
+    (rw e (slot .0), rw e (slot .1)))
+    (λ c. let e = c .before .before .call5 .given .1 in (rw e (c .plan-frame .ensures), rw e))
+    (λ c. let e = c .before .before .call6 .given .1 in (rw e (c .plan-fault .ensures), rw e))
+    (λ c. let e = c .before .enum-told3 .given .1 in (rw e (c .plan-timeout .ensures), rw e)))

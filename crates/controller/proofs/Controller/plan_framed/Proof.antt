@@ -1,0 +1,62 @@
+use Prim.Native.Nat.{_≤_}
+use mathlib.Core.Path.{_≡_, sym, ap, _∙_}
+use native.Mathlib.Omega.{arith}
+use borrow.Author.Needs.{needs}
+use lib.ListN.{length, take}
+use lib.Seq.{take-all, length-take-le}
+use Rattle.controller.proofs.RegisterLaws.{thirty-bytes}
+use Rattle.controller.proofs.Controller.plan_framed.Statement.{statement}
+use Rattle.controller.proofs.Controller.plan_framed.Tie as tie
+
+cast-n : tie.Need-cast-n
+cast-n c = search needs
+
+array-share-prefix-b : tie.Need-array-share-prefix-b
+array-share-prefix-b c =
+    let f = c .before .before .before .before .before .args .f in
+    let thirty : length (f .bytes) ≡ 30 = search needs in
+    omega (arith, c .before .if1 .taken)
+
+slice-aggregate-plan : tie.Need-slice-aggregate-plan
+slice-aggregate-plan c = sym (length-take-le _ _ (array-share-prefix-b (c .before)))
+
+plan-requires : tie.Need-plan-requires
+plan-requires c κs = search needs
+
+same-length : tie.Need-same-length
+same-length c = search needs
+
+returns : tie.Need-returns
+returns c = search needs
+
+slice-aggregate-plan-2 : tie.Need-slice-aggregate-plan-2
+slice-aggregate-plan-2 c = search needs
+
+plan-requires-2 : tie.Need-plan-requires-2
+plan-requires-2 c κs = search needs
+
+same-length-2 : tie.Need-same-length-2
+same-length-2 c = search needs
+
+returns-2 : tie.Need-returns-2
+returns-2 c =
+    let start = c .before .before .before .before .before .before .before .before .before in
+    let f = start .args .f in
+    let thirty : length (f .bytes) ≡ 30 = thirty-bytes f _ (start .good .1 .1 .0) in
+    let whole : take (f .size) (f .bytes) ≡ f .bytes = take-all (f .size) (f .bytes) (omega (arith, c .before .before .before .before .before .if1 .left)) in
+    (rw whole (c .before .before .plan2 .ensures .0), c .before .before .plan2 .ensures .1)
+
+pub plan-framed-spec : {M : Type 1} → statement M
+plan-framed-spec =
+    tie.close
+    (tie.spec
+    cast-n
+    array-share-prefix-b
+    slice-aggregate-plan
+    plan-requires
+    same-length
+    returns
+    slice-aggregate-plan-2
+    plan-requires-2
+    same-length-2
+    returns-2)
