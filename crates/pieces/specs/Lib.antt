@@ -1,0 +1,6 @@
+pub mod Lines
+pub mod Feed
+pub mod FeedLaws
+pub mod Whole
+pub mod Gather
+pub mod GatherLaws

@@ -1,0 +1,221 @@
+-- However a text is cut in pieces, what is written is what its lines give: for any act and show that take all lines above
+-- 64 bytes for the same.
+use Prim.Native.Nat.{ℕ, zero, suc, _+_, _≤_, _<_}
+use native.Mathlib.Omega.{arith}
+use native.Mathlib.Numerals.{add-one}
+use mathlib.Core.Path.{_≡_, refl, sym, ap, _∙_}
+use mathlib.Core.Logic.{_⊎_, inl, inr, ⊎-elim}
+use mathlib.Core.List.{List, [], _∷_, _++_, append-assoc, append-nil}
+use mathlib.Core.Bool.{Bool, true, false}
+use borrow.Author.Tests.{lt-ltb, le-ltb, le-leb, lt-leb, eq-eqb, ne-eqb, ltb-true, ltb-false}
+use lib.ListN.{length, take, set, replicate, length-append, length-set}
+use lib.Seq.{take-suc-set, take-nil}
+use lib.Dec.{ltb, eqb}
+use Rattle.masks.specs.Pick.{pick-true, pick-false, pick-keeps, by-test}
+use Rattle.pieces.specs.declared.Held.{Held}
+use Rattle.pieces.specs.Lines.{Line, restOf, linesFrom, linesOf}
+use Rattle.pieces.specs.Feed.{Feed, noneHeld, pushOf, lineIn, numberAfter, isRead, endLine, byteS, byteO, endOf, outOf, lastOf, runFrom, wholeOf}
+use Rattle.pieces.specs.FeedLaws.{endOf-append, outOf-append}
+
+-- ---- a text in pieces
+
+abbrev pub joined : List (List ℕ) → List ℕ
+joined [] = []
+joined (c ∷ cs) = c ++ joined cs
+
+-- nothing fed yet
+abbrev pub fresh : {S : Type 0} → S → Feed S
+fresh s = record { state = s; held = noneHeld; number = 1 }
+
+-- ---- the beginning p of a line is held
+
+record Short (h : Held) (p : List ℕ) : Type 0 where
+  len : h .len ≡ length p
+  text : take (h .len) (h .bytes) ≡ p
+  low : length p ≤ 64
+
+record Long (h : Held) (p : List ℕ) : Type 0 where
+  len : 64 < h .len
+  high : 64 < length p
+
+record Holds (h : Held) (p : List ℕ) : Type 0 where
+  room : length (h .bytes) ≡ 64
+  kind : Short h p ⊎ Long h p
+
+line-short : (h : Held) (p : List ℕ) → Short h p → lineIn h ≡ p
+unfolding lineIn
+line-short h p w = let k : h .len ≤ 64 = omega (arith, w .len, w .low) in pick-false _ _ _ (le-ltb 64 (h .len) k) ∙ w .text
+
+line-long : (h : Held) (p : List ℕ) → Long h p → 64 < length (lineIn h)
+unfolding lineIn
+line-long h p w = rw (pick-true _ (replicate 65 0) (take (h .len) (h .bytes)) (lt-ltb 64 (h .len) (w .len))) (omega arith)
+
+-- a byte more
+push-holds : (h : Held) (p : List ℕ) (b : ℕ) → Holds h p → Holds (pushOf h b) (p ++ (b ∷ []))
+unfolding pushOf
+push-holds h p b w =
+    let room : length (h .bytes) ≡ 64 = w .room in
+    pick-keeps (λ (x : Held). Holds x (p ++ (b ∷ []))) (ltb (h .len) 64)
+    (λ e.
+    let k : h .len < 64 = ltb-true (h .len) 64 e in
+    let i : h .len < length (h .bytes) = omega arith in
+    record {
+      room = length-set (h .bytes) (h .len) b ∙ room;
+      kind =
+          ⊎-elim
+          (λ (u : Short h p). inl (record {
+            len = ap (λ (n : ℕ). n + 1) (u .len) ∙ sym (length-append p (b ∷ []));
+            text = ap (λ (n : ℕ). take n (set (h .bytes) (h .len) b)) (add-one (h .len)) ∙ take-suc-set (h .bytes) (h .len) b i ∙ ap (λ (l : List ℕ). l ++ (b ∷ [])) (u .text);
+            low = omega (arith, length-append p (b ∷ []), u .len);
+          }))
+          (λ (u : Long h p). absurd (omega (arith, u .len)))
+          (w .kind);
+    })
+    (λ e.
+    let k : 64 ≤ h .len = ltb-false (h .len) 64 e in
+    record {
+      room = room;
+      kind = inr (record {
+        len = omega arith;
+        high = ⊎-elim (λ (u : Short h p). omega (arith, length-append p (b ∷ []), u .len)) (λ (u : Long h p). omega (arith, length-append p (b ∷ []), u .high)) (w .kind);
+      });
+    })
+
+none-holds : (h : Held) → length (h .bytes) ≡ 64 → h .len ≡ 0 → Holds h []
+none-holds h room e = record { room = room; kind = inl (record { len = e; text = ap (λ (n : ℕ). take n (h .bytes)) e; low = omega arith }) }
+
+-- past the last line that is read the number never comes back
+later : (n : ℕ) → 999999 < n → 999999 < numberAfter n
+unfolding numberAfter
+later n h = pick-keeps (λ (x : ℕ). 999999 < x) (ltb n 4294967295) (λ e. omega arith) (λ e. h)
+
+module _ {S : Type 0} (act : S → ℕ → List ℕ → S) (show : S → ℕ → Bool → List ℕ → List ℕ) where
+  -- what a program writes that feeds the pieces one by one and then ends
+  unfoldable pub streamOf : Feed S → List (List ℕ) → List ℕ
+  streamOf f [] = lastOf act show f
+  streamOf f (c ∷ cs) = outOf act show f c ++ streamOf (endOf act show f c) cs
+
+  -- pieces are as good as the text
+  pub stream-joined : (f : Feed S) (cs : List (List ℕ)) → streamOf f cs ≡ outOf act show f (joined cs) ++ lastOf act show (endOf act show f (joined cs))
+  unfolding streamOf outOf endOf
+  stream-joined f [] = refl
+  stream-joined f (c ∷ cs) =
+      let m : Feed S = endOf act show f c in
+      ap (λ (l : List ℕ). outOf act show f c ++ l) (stream-joined (endOf act show f c) cs)
+      ∙ sym (append-assoc (outOf act show f c) (outOf act show m (joined cs)) (lastOf act show (endOf act show m (joined cs))))
+      ∙ ap (λ (l : List ℕ). l ++ lastOf act show (endOf act show m (joined cs))) (sym (outOf-append act show f c (joined cs)))
+      ∙ ap (λ (x : Feed S). outOf act show f (c ++ joined cs) ++ lastOf act show x) (sym (endOf-append act show f c (joined cs)))
+
+  -- nothing is written past the last line that is read
+  later-byte : (f : Feed S) (b : ℕ) → 999999 < f .number → 999999 < byteS act show f b .number
+  unfolding byteS endLine
+  later-byte f b h = pick-keeps (λ (x : Feed S). 999999 < x .number) (eqb b 10) (λ e. later (f .number) h) (λ e. h)
+
+  idle-byte : (f : Feed S) (b : ℕ) → 999999 < f .number → byteO act show f b ≡ []
+  unfolding byteO isRead
+  idle-byte f b h =
+      by-test (eqb b 10) (λ e. simp (e, lt-leb (f .number) 999999 h, pick-false)) (λ e. simp (e, pick-false))
+
+  idle-last : (f : Feed S) → 999999 < f .number → lastOf act show f ≡ []
+  unfolding lastOf isRead
+  idle-last f h =
+      by-test (eqb (f .held .len) 0) (λ e. simp (e, pick-true)) (λ e. simp (e, lt-leb (f .number) 999999 h, pick-false))
+
+  idle : (f : Feed S) (t : List ℕ) → 999999 < f .number → outOf act show f t ++ lastOf act show (endOf act show f t) ≡ []
+  unfolding outOf endOf
+  idle f [] h = idle-last f h
+  idle f (b ∷ bs) h =
+      ap (λ (l : List ℕ). (l ++ outOf act show (byteS act show f b) bs) ++ lastOf act show (endOf act show (byteS act show f b) bs)) (idle-byte f b h)
+      ∙ idle (byteS act show f b) bs (later-byte f b h)
+
+  -- what is to be shown of a text t, wherever feeding stands
+  abbrev Told : List ℕ → Type 0
+  Told t =
+      (f : Feed S) (p : List ℕ) → Holds (f .held) p → (k : ℕ) → f .number + k ≡ 1000000
+      → outOf act show f t ++ lastOf act show (endOf act show f t) ≡ runFrom act show (f .state) (f .number) (take k (linesFrom p t))
+
+module _ {S : Type 0} (act : S → ℕ → List ℕ → S) (show : S → ℕ → Bool → List ℕ → List ℕ)
+    (over-act : (s : S) (n : ℕ) (l m : List ℕ) → 64 < length l → 64 < length m → act s n l ≡ act s n m)
+    (over-show : (s : S) (n : ℕ) (e : Bool) (l m : List ℕ) → 64 < length l → 64 < length m → show s n e l ≡ show s n e m) where
+  -- what is held is as good as the line
+  act-line : (h : Held) (p : List ℕ) → Holds h p → (s : S) (n : ℕ) → act s n (lineIn h) ≡ act s n p
+  act-line h p w s n = ⊎-elim (λ u. ap (act s n) (line-short h p u)) (λ u. over-act s n (lineIn h) p (line-long h p u) (u .high)) (w .kind)
+
+  show-line : (h : Held) (p : List ℕ) → Holds h p → (s : S) (n : ℕ) (e : Bool) → show s n e (lineIn h) ≡ show s n e p
+  show-line h p w s n e = ⊎-elim (λ u. ap (show s n e) (line-short h p u)) (λ u. over-show s n e (lineIn h) p (line-long h p u) (u .high)) (w .kind)
+
+  -- an LF
+  line-ended : (f : Feed S) (p : List ℕ) → Holds (f .held) p → f .number ≤ 999999
+      → endLine act show f ≡ record { state = act (f .state) (f .number) p; held = record { bytes = f .held .bytes; len = 0 }; number = f .number + 1 }
+  unfolding endLine isRead numberAfter
+  line-ended f p w h =
+      let k : f .number < 4294967295 = omega arith in
+      simp (pick-true, le-leb (f .number) 999999 h, lt-ltb (f .number) 4294967295 k, act-line (f .held) p w)
+
+  told-end : (bs : List ℕ) → Told act show bs → (f : Feed S) (p : List ℕ) → Holds (f .held) p → (k : ℕ) → f .number + suc k ≡ 1000000
+      → (show (f .state) (f .number) true (lineIn (f .held)) ++ outOf act show (endLine act show f) bs) ++ lastOf act show (endOf act show (endLine act show f) bs)
+      ≡ runFrom act show (f .state) (f .number) (record { text = p; ended = true } ∷ take k (linesFrom [] bs))
+  unfolding runFrom
+  told-end bs ih f p w k e =
+      let h : f .number ≤ 999999 = omega arith in
+      let g : Feed S = record { state = act (f .state) (f .number) p; held = record { bytes = f .held .bytes; len = 0 }; number = f .number + 1 } in
+      let n : f .number + 1 + k ≡ 1000000 = omega arith in
+      append-assoc (show (f .state) (f .number) true (lineIn (f .held))) (outOf act show (endLine act show f) bs) (lastOf act show (endOf act show (endLine act show f) bs))
+      ∙ ap (λ (x : Feed S). show (f .state) (f .number) true (lineIn (f .held)) ++ (outOf act show x bs ++ lastOf act show (endOf act show x bs))) (line-ended f p w h)
+      ∙ ap (λ (l : List ℕ). show (f .state) (f .number) true (lineIn (f .held)) ++ l) (ih g [] (none-holds (g .held) (w .room) refl) k n)
+      ∙ ap (λ (l : List ℕ). l ++ runFrom act show (g .state) (f .number + 1) (take k (linesFrom [] bs))) (show-line (f .held) p w (f .state) (f .number) true)
+
+  -- any other byte
+  told-push : (b : ℕ) (bs : List ℕ) → Told act show bs → (f : Feed S) (p : List ℕ) → Holds (f .held) p → (k : ℕ) → f .number + k ≡ 1000000
+      → outOf act show (record { state = f .state; held = pushOf (f .held) b; number = f .number }) bs
+      ++ lastOf act show (endOf act show (record { state = f .state; held = pushOf (f .held) b; number = f .number }) bs)
+      ≡ runFrom act show (f .state) (f .number) (take k (linesFrom (p ++ (b ∷ [])) bs))
+  told-push b bs ih f p w k e =
+      ih (record { state = f .state; held = pushOf (f .held) b; number = f .number }) (p ++ (b ∷ [])) (push-holds (f .held) p b w) k e
+
+  told-byte : (b : ℕ) (bs : List ℕ) → Told act show bs → (f : Feed S) (p : List ℕ) → Holds (f .held) p → (k : ℕ) → f .number + suc k ≡ 1000000
+      → outOf act show f (b ∷ bs) ++ lastOf act show (endOf act show f (b ∷ bs)) ≡ runFrom act show (f .state) (f .number) (take (suc k) (linesFrom p (b ∷ bs)))
+  unfolding outOf endOf byteS byteO isRead linesFrom
+  told-byte b bs ih f p w k e =
+      let h : f .number ≤ 999999 = omega arith in
+      by-test (eqb b 10)
+      (λ q. simp (pick-true, q, le-leb (f .number) 999999 h) (told-end bs ih f p w k e))
+      (λ q. simp (pick-false, q) (told-push b bs ih f p w (suc k) e))
+
+  -- the end of the text
+  told-last : (f : Feed S) (p : List ℕ) → Holds (f .held) p → (k : ℕ) → f .number + suc k ≡ 1000000
+      → lastOf act show f ≡ runFrom act show (f .state) (f .number) (take (suc k) (restOf p))
+  unfolding lastOf isRead runFrom
+  told-last f [] w k e =
+      let z : f .held .len ≡ 0 = ⊎-elim (λ (u : Short (f .held) []). u .len) (λ (u : Long (f .held) []). absurd (omega (arith, u .high))) (w .kind) in
+      pick-true _ _ _ (eq-eqb (f .held .len) 0 z)
+  told-last f (x ∷ p) w k e =
+      let h : f .number ≤ 999999 = omega arith in
+      let z : (f .held .len ≡ 0) → ⊥ = λ q. ⊎-elim (λ (u : Short (f .held) (x ∷ p)). omega (arith, u .len)) (λ (u : Long (f .held) (x ∷ p)). omega (arith, u .len)) (w .kind) in
+      pick-false _ _ _ (ne-eqb (f .held .len) 0 z) ∙ pick-true _ _ _ (le-leb (f .number) 999999 h)
+      ∙ show-line (f .held) (x ∷ p) w (f .state) (f .number) false
+      ∙ sym (append-nil (show (f .state) (f .number) false (x ∷ p)))
+      ∙ ap (λ (ls : List Line). show (f .state) (f .number) false (x ∷ p) ++ runFrom act show (act (f .state) (f .number) (x ∷ p)) (f .number + 1) ls) (sym (take-nil k))
+
+  told-nil : Told act show []
+  unfolding outOf endOf linesFrom runFrom
+  told-nil f p w zero e = idle act show f [] (omega arith)
+  told-nil f p w (suc k) e = told-last f p w k e
+
+  told-cons : (b : ℕ) (bs : List ℕ) → Told act show bs → Told act show (b ∷ bs)
+  unfolding runFrom
+  told-cons b bs ih f p w zero e = idle act show f (b ∷ bs) (omega arith)
+  told-cons b bs ih f p w (suc k) e = told-byte b bs ih f p w k e
+
+  told : (t : List ℕ) → Told act show t
+  told [] = told-nil
+  told (b ∷ bs) = told-cons b bs (told bs)
+
+  -- a text fed whole gives what its lines give
+  pub whole : (s : S) (t : List ℕ) → outOf act show (fresh s) t ++ lastOf act show (endOf act show (fresh s) t) ≡ wholeOf act show s t
+  unfolding wholeOf linesOf
+  whole s t = told t (fresh s) [] (none-holds noneHeld refl refl) 999999 refl
+
+  -- and so does a text in any pieces
+  pub any-pieces : (s : S) (cs : List (List ℕ)) → streamOf act show (fresh s) cs ≡ wholeOf act show s (joined cs)
+  any-pieces s cs = stream-joined act show (fresh s) cs ∙ whole s (joined cs)
