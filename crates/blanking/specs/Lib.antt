@@ -1,0 +1,4 @@
+pub mod Session
+pub mod Room
+pub mod SessionLaws
+pub mod Whole

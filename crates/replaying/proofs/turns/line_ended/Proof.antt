@@ -1,0 +1,64 @@
+use mathlib.Core.Path.{refl}
+use Rattle.replaying.specs.OpenLaws.{is-read, is-past}
+use Rattle.replaying.specs.SeekLaws.{ends-past, ends-due, ends-unread}
+use borrow.Author.Needs.{needs}
+use Rattle.replaying.proofs.turns.line_ended.Statement.{statement}
+use Rattle.replaying.proofs.turns.line_ended.Tie as tie
+
+passed-requires : tie.Need-passed-requires
+passed-requires c κs = search needs
+
+returns : tie.Need-returns
+returns c = ends-past (is-past _ (c .before .if1 .taken)) (c .passed .ensures) refl
+
+parsed-requires : tie.Need-parsed-requires
+parsed-requires c κs = search needs
+
+enum-known-line : tie.Need-enum-known-line
+enum-known-line c = search needs
+
+awaiting-requires : tie.Need-awaiting-requires
+awaiting-requires c κs = search needs
+
+enum-told : tie.Need-enum-told
+enum-told c = search needs
+
+unread-row-requires : tie.Need-unread-row-requires
+unread-row-requires c κs = search needs
+
+unread-counted-requires : tie.Need-unread-counted-requires
+unread-counted-requires c κs = search needs
+
+passed-requires-2 : tie.Need-passed-requires-2
+passed-requires-2 c κs = search needs
+
+returns-2 : tie.Need-returns-2
+returns-2 c =
+    let read = c .before .before .before .before .before in
+    ends-due (is-read _ (read .before .before .if1 .left)) _ (read .parsed .ensures) _ (c .before .before .before .line .given .1) (c .awaiting .ensures) refl
+
+same-length : tie.Need-same-length
+same-length c = search needs
+
+returns-3 : tie.Need-returns-3
+returns-3 c =
+    let row = c .before .before .before .before in
+    let read = row .before .before .before .before in
+    ends-unread (is-read _ (read .before .before .if1 .left)) _ (read .parsed .ensures) (row .before .before .enum-told .given .1) _ (c .before .unread-counted .ensures) _ (row .unread-row .ensures) (c .passed2 .ensures)
+
+pub line-ended-spec : {M : Type 1} → statement M
+line-ended-spec =
+    tie.close
+    (tie.spec
+    passed-requires
+    returns
+    parsed-requires
+    enum-known-line
+    awaiting-requires
+    enum-told
+    unread-row-requires
+    unread-counted-requires
+    passed-requires-2
+    returns-2
+    same-length
+    returns-3)

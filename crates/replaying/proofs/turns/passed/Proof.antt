@@ -1,0 +1,12 @@
+use borrow.Author.Needs.{needs}
+use Rattle.replaying.proofs.turns.passed.Statement.{statement}
+use Rattle.replaying.proofs.turns.passed.Tie as tie
+
+number-after-requires : tie.Need-number-after-requires
+number-after-requires c κs = search needs
+
+returns : tie.Need-returns
+returns c = rw (c .before .number-after .ensures)
+
+pub passed-spec : {M : Type 1} → statement M
+passed-spec = tie.close (tie.spec number-after-requires returns)

@@ -1,0 +1,9 @@
+pub mod Replay
+pub mod Whole
+pub mod Session
+pub mod Sent
+pub mod Turn
+pub mod OpenLaws
+pub mod SeekLaws
+pub mod TurnLaws
+pub mod SessionLaws

@@ -1,0 +1,204 @@
+// The loop over a piece's lines, but for the controller's steps: it is given the answer of each, and seeks the next.
+ghost use mathlib.Core.Path.{_≡_};
+ghost use Prim.Native.Nat.{_+_, _≤_, _<_, min};
+ghost use lib.ListN.{length, replicate};
+ghost use Rattle.lines.specs.Grammar.{lineOf};
+ghost use Rattle.pieces.specs.Feed.{lineIn};
+ghost use Rattle.replaying.specs.Sent.{sentSize};
+ghost use Rattle.replaying.specs.Turn.{reaches, awaits, passes, unreadOf, countedOf, Ends, Seeks, Answers};
+use crate::Tally;
+use crate::Turn;
+use controller::Call;
+use controller::FrameBytes;
+use lines::Line;
+use lines::Parsed;
+use pieces::Held;
+use rules::Answer;
+
+// The line that is held, as a step.
+fn parsed(h: Held) -> Parsed
+    ensures { λ r. ⌜ r ≡ lineOf (lineIn h) ⌝ }
+{
+    let n = h.len as usize;
+    if 64 < n {
+        return lines::unread();
+    }
+    let bytes = h.bytes;
+    lines::parse(&bytes[..n])
+}
+
+// The turn with the bytes up to index at gathered.
+fn reached(t: Turn, held: Held, at: usize) -> Turn
+    ensures { λ r. ⌜ r ≡ reaches t held at ⌝ }
+{
+    let mut next = t;
+    next.held = held;
+    next.taken = at;
+    next.due = false;
+    next
+}
+
+// The turn with a step due, at the LF that it has reached.
+fn awaiting(t: Turn, call: Call, frame: FrameBytes) -> Turn
+    ensures { λ r. ⌜ r ≡ awaits t call frame ⌝ }
+{
+    let held = t.held;
+    let tally = t.tally;
+    Turn {
+        held,
+        number: t.number,
+        tally,
+        irq: t.irq,
+        taken: t.taken,
+        written: t.written,
+        due: true,
+        call,
+        frame,
+    }
+}
+
+// The turn past the LF, which stands before index at.
+fn passed(t: Turn, at: usize, irq: u8, tally: Tally, written: usize) -> Turn
+    ensures { λ r. ⌜ r ≡ passes t at irq tally written ⌝ }
+{
+    let number = pieces::number_after(t.number);
+    let mut next = t;
+    next.held.len = 0;
+    next.number = number;
+    next.tally = tally;
+    next.irq = irq;
+    next.taken = at;
+    next.written = written;
+    next.due = false;
+    next
+}
+
+// The tally with a line counted that is no step.
+fn unread_counted(k: Tally) -> Tally
+    ensures { λ r. ⌜ r ≡ unreadOf k ⌝ }
+{
+    Tally {
+        unread: pieces::number_after(k.unread),
+        refused: k.refused,
+    }
+}
+
+// The tally with an answer counted.
+fn counted(k: Tally, a: Answer) -> Tally
+    ensures { λ r. ⌜ r ≡ countedOf k a ⌝ }
+{
+    match a {
+        Answer::Refused(_) => Tally {
+            unread: k.unread,
+            refused: pieces::number_after(k.refused),
+        },
+        _ => k,
+    }
+}
+
+// At a line's LF, behind which index next stands: its step is due, or the line is done with and has its row, if it is read.
+fn line_ended(t: Turn, next: usize, out: &mut [u8]) -> Turn
+    ensures { λ r. ⌜ Ends t next (now (out .entry)) r (now (out .exit)) ⌝ }
+{
+    let number = t.number;
+    let irq = t.irq;
+    let tally = t.tally;
+    if 999999 < number {
+        return passed(t, next, irq, tally, t.written);
+    }
+    let held = t.held;
+    let p = parsed(held);
+    let line = p.line;
+    match line {
+        Line::Step(call) => {
+            let frame = p.frame;
+            awaiting(t, call, frame)
+        }
+        Line::Unread => {
+            let w = report::unread_row(out, t.written, number, irq);
+            passed(t, next, irq, unread_counted(tally), w)
+        }
+    }
+}
+
+// Gathers lines up to the next one that is a step, or to index end.
+pub fn seek(piece: &[u8], end: usize, out: &mut [u8], start: Turn) -> Turn
+    ensures { λ r. ⌜ Seeks (now (piece .entry)) end (now (out .entry)) start r (now (out .exit)) ⌝ }
+{
+    let mut t = start;
+    t.due = false;
+    while t.taken < end {
+        let held = t.held;
+        let g = pieces::gather(held, piece, t.taken, end);
+        let at = g.at;
+        let gathered = g.held;
+        t = reached(t, gathered, at);
+        let ended = g.ended;
+        if !ended {
+            return t;
+        }
+        t = line_ended(t, at + 1, out);
+        let due = t.due;
+        if due {
+            return t;
+        }
+    }
+    t
+}
+
+// The index behind at, but none behind end.
+fn index_after(at: usize, end: usize) -> usize
+    ensures { λ r. ⌜ (at < end → r ≡ at + 1) × (end ≤ at → r ≡ end) ⌝ }
+{
+    if at < end {
+        return at + 1;
+    }
+    end
+}
+
+pub fn least(a: usize, b: usize) -> usize
+    ensures { λ r. ⌜ r ≡ min a b ⌝ }
+{
+    if a < b { a } else { b }
+}
+
+// How many of a room's n bytes an answer's row shows.
+fn sent_size(a: Answer, n: usize) -> usize
+    ensures { λ r. ⌜ r ≡ sentSize a n ⌝ }
+{
+    match a {
+        Answer::Sent(k) => least(k as usize, n),
+        _ => 0,
+    }
+}
+
+// No frame is left in the room for the next slot.
+fn clear(room: &mut [u8])
+    ensures { λ _. ⌜ now (room .exit) ≡ replicate (length (now (room .entry))) 0 ⌝ }
+{
+    let mut i = 0;
+    while i < room.len() {
+        room[i] = 0;
+        i += 1;
+    }
+}
+
+// The due step was answered so, with the lines irq after it and the room as it left it: its row, and the next step.
+pub fn answered(
+    room: &mut [u8],
+    piece: &[u8],
+    end: usize,
+    out: &mut [u8],
+    t: Turn,
+    a: Answer,
+    irq: u8,
+) -> Turn
+    ensures { λ r. ⌜ Answers (now (room .entry)) (now (piece .entry)) end (now (out .entry)) t a irq r (now (room .exit)) (now (out .exit)) ⌝ }
+{
+    let k = sent_size(a, room.len());
+    let w = report::row(out, t.written, t.number, a, &room[..k], irq);
+    clear(room);
+    let next = index_after(t.taken, end);
+    let tally = t.tally;
+    seek(piece, end, out, passed(t, next, irq, counted(tally, a), w))
+}

@@ -1,0 +1,247 @@
+-- Laws of the report's text: texts put one behind the other, rooms that are long enough, and how long a row can be.
+use Prim.Native.Nat.{ℕ, zero, suc, _+_, _-_, _/_, _%_, _≤_, _<_}
+use native.Mathlib.Nat.{le-of-lt, min-le-left, zero-add, add-zero, add-suc, suc-add, add-assoc}
+use native.Mathlib.Numerals.{add-one}
+use native.Mathlib.Omega.{arith}
+use mathlib.Core.Path.{_≡_, refl, sym, ap, _∙_}
+use mathlib.Core.List.{List, [], _∷_, _++_, append-assoc, append-nil}
+use mathlib.Core.Bool.{Bool}
+use borrow.Author.Tests.{leb-true, le-leb, lt-leb}
+use lib.ListN.{length, length-append, length-take, set, take, drop, getD}
+use lib.Seq.{sets, length-sets, take-suc, length-take-le, set-comm}
+use lib.Dec.{ltb, leb}
+use Rattle.masks.specs.Pick.{pick, pick-true, pick-false, pick-keeps}
+use Rattle.rules.specs.declared.SyncKind.{SyncKind}
+use Rattle.rules.specs.declared.SyncKind.the-variants.{Normal, Alarm}
+use Rattle.rules.specs.declared.Answer.{Answer}
+use Rattle.rules.specs.declared.Answer.the-variants.{Ok, Value, Stored, Queued, HeldOff, HeldBack, Sent, Pulse, Refused, Overrun, Unmatched, BadFrame, Ignored, Woke, NotSent}
+use Rattle.rules.specs.Answers.{Word, ok, read, stored, queued, heldoff, heldback, sent, pulse, refused, overrun, unmatched, badframe, ignored, woke, notsent, Detail, dash, value, buffer, bytes, kind, number, detailOf, wordOf}
+use Rattle.report.specs.Text.{hexOf, hexesOf, digitsOf, widthOf, decimalOf, wordText, unreadText, kindText, detailText, rowText, rowOf, unreadRow, headingOf, Put, fitting}
+
+-- ---- texts one behind the other
+
+pub sets-append : (xs ys o : List ℕ) (at : ℕ) → sets (sets o at xs) (at + length xs) ys ≡ sets o at (xs ++ ys)
+sets-append [] ys o at = ap (λ (n : ℕ). sets o n ys) (add-zero at)
+sets-append (x ∷ xs) ys o at =
+    ap (λ (n : ℕ). sets (sets (set o at x) (suc at) xs) n ys) (add-suc at (length xs) ∙ sym (suc-add at (length xs)))
+    ∙ sets-append xs ys (set o at x) (suc at)
+
+-- nothing put
+pub none : (o : List ℕ) (at : ℕ) → Put o at [] o at
+none o at = record { next = sym (add-zero at); text = refl }
+
+-- one text behind the other
+pub then : {o : List ℕ} {at : ℕ} {xs ys p q : List ℕ} {r t : ℕ} → Put o at xs p r → Put p r ys q t → Put o at (xs ++ ys) q t
+then {o} {at} {xs} {ys} {p} {q} {r} {t} a b = record {
+  next = b .next ∙ ap (λ (n : ℕ). n + length ys) (a .next) ∙ add-assoc at (length xs) (length ys) ∙ ap (λ (n : ℕ). at + n) (sym (length-append xs ys));
+  text = b .text ∙ ap (λ (n : ℕ). sets p n ys) (a .next) ∙ ap (λ (l : List ℕ). sets l (at + length xs) ys) (a .text) ∙ sets-append xs ys o at;
+}
+
+-- the room keeps its length
+pub kept : {o : List ℕ} {at : ℕ} {xs p : List ℕ} {r : ℕ} → Put o at xs p r → length p ≡ length o
+kept {o} {at} {xs} a = ap length (a .text) ∙ length-sets o at xs
+
+sets-cons : (xs ys : List ℕ) (y i : ℕ) → sets (y ∷ ys) (suc i) xs ≡ y ∷ sets ys i xs
+sets-cons [] ys y i = refl
+sets-cons (x ∷ xs) ys y i = sets-cons xs (set ys i x) y (suc i)
+
+sets-drop : (a : ℕ) (o xs : List ℕ) → a ≤ length o → sets o a xs ≡ take a o ++ sets (drop a o) 0 xs
+sets-drop zero o xs h = refl
+sets-drop (suc a) [] xs h = absurd (omega arith)
+sets-drop (suc a) (y ∷ o) xs h = sets-cons xs o y a ∙ ap (λ (l : List ℕ). y ∷ l) (sets-drop a o xs (omega arith))
+
+-- what was put into the part `&mut o[a..]`, said of the whole
+pub within : {o : List ℕ} {a : ℕ} {xs p : List ℕ} {r : ℕ} → a ≤ length o → Put (drop a o) 0 xs p r → Put o a xs (take a o ++ p) (a + r)
+within {o} {a} {xs} {p} {r} h q = record {
+  next = ap (λ (n : ℕ). a + n) (q .next ∙ zero-add (length xs));
+  text = ap (λ (l : List ℕ). take a o ++ l) (q .text) ∙ sym (sets-drop a o xs h);
+}
+
+-- ---- the room that is left
+
+-- where 64 bytes are left, the text is put
+pub fits : (o : List ℕ) (at : ℕ) (xs : List ℕ) → at + 64 ≤ length o → fitting o at xs ≡ xs
+unfolding fitting
+fits o at xs h = pick-true (leb (at + 64) (length o)) xs [] (le-leb _ _ h)
+
+-- where fewer are left, nothing is
+pub tight : (o : List ℕ) (at : ℕ) (xs : List ℕ) → length o < at + 64 → fitting o at xs ≡ []
+unfolding fitting
+tight o at xs h = pick-false (leb (at + 64) (length o)) xs [] (lt-leb _ _ h)
+
+-- a text of at most 64 bytes ends inside the room
+pub inside : (o : List ℕ) (at : ℕ) (xs : List ℕ) → at ≤ length o → length xs ≤ 64 → at + length (fitting o at xs) ≤ length o
+unfolding fitting
+inside o at xs h l =
+    pick-keeps (λ (ys : List ℕ). at + length ys ≤ length o) (leb (at + 64) (length o))
+    (λ e. let f : at + 64 ≤ length o = leb-true (at + 64) (length o) e in omega arith) (λ _. omega arith)
+
+-- ---- a text put element by element
+
+-- one element more
+pub more : (s o : List ℕ) (at i : ℕ) → i < length s → set (sets o at (take i s)) (at + i) (getD s i 0) ≡ sets o at (take (i + 1) s)
+more s o at i h =
+    ap (λ (n : ℕ). set (sets o at (take i s)) (at + n) (getD s i 0)) (sym (length-take-le i s (le-of-lt h)))
+    ∙ sets-append (take i s) (getD s i 0 ∷ []) o at
+    ∙ ap (sets o at) (sym (take-suc s i 0 h) ∙ ap (λ (n : ℕ). take n s) (sym (add-one i)))
+
+hexes-append : (xs ys : List ℕ) → hexesOf (xs ++ ys) ≡ hexesOf xs ++ hexesOf ys
+unfolding hexesOf
+hexes-append [] ys = refl
+hexes-append (x ∷ xs) ys = ap (λ (l : List ℕ). hexOf x ++ l) (hexes-append xs ys) ∙ sym (append-assoc (hexOf x) (hexesOf xs) (hexesOf ys))
+
+-- one byte more in hexadecimal
+pub hexes-more : (s : List ℕ) (i : ℕ) → i < length s → hexesOf (take i s) ++ hexOf (getD s i 0) ≡ hexesOf (take (i + 1) s)
+unfolding hexesOf
+hexes-more s i h =
+    ap (λ (l : List ℕ). hexesOf (take i s) ++ l) (sym (append-nil (hexOf (getD s i 0))))
+    ∙ sym (hexes-append (take i s) (getD s i 0 ∷ []))
+    ∙ ap hexesOf (sym (take-suc s i 0 h) ∙ ap (λ (n : ℕ). take n s) (sym (add-one i)))
+
+-- a store behind a text may come before it
+sets-set : (xs o : List ℕ) (at j d : ℕ) → at + length xs ≤ j → sets (set o j d) at xs ≡ set (sets o at xs) j d
+sets-set [] o at j d h = refl
+sets-set (x ∷ xs) o at j d h =
+    let ne : (j ≡ at) → ⊥ = λ e. omega arith in
+    let h′ : suc at + length xs ≤ j = omega arith in
+    ap (λ (l : List ℕ). sets l (suc at) xs) (set-comm o j at d x ne) ∙ sets-set xs (set o at x) (suc at) j d h′
+
+pub length-digits : (k n : ℕ) → length (digitsOf k n) ≡ k
+unfolding digitsOf
+length-digits zero n = refl
+length-digits (suc k) n = length-append (digitsOf k (n / 10)) ((48 + n % 10) ∷ []) ∙ ap (λ (m : ℕ). m + 1) (length-digits k (n / 10)) ∙ add-one k
+
+digits-last : (o : List ℕ) (at i n : ℕ) → sets (set o (at + i) (48 + n % 10)) at (digitsOf i (n / 10)) ≡ sets o at (digitsOf (suc i) n)
+unfolding digitsOf
+digits-last o at i n =
+    let e : length (digitsOf i (n / 10)) ≡ i = length-digits i (n / 10) in
+    let h : at + length (digitsOf i (n / 10)) ≤ at + i = omega arith in
+    sets-set (digitsOf i (n / 10)) o at (at + i) (48 + n % 10) h
+    ∙ ap (λ (m : ℕ). set (sets o at (digitsOf i (n / 10))) (at + m) (48 + n % 10)) (sym e)
+    ∙ sets-append (digitsOf i (n / 10)) ((48 + n % 10) ∷ []) o at
+
+-- one decimal digit more, from the last to the first
+pub digits-turn : (o : List ℕ) (at i n : ℕ) → 0 < i → sets (set o (at + (i - 1)) (48 + n % 10)) at (digitsOf (i - 1) (n / 10)) ≡ sets o at (digitsOf i n)
+digits-turn o at i n h =
+    let e : suc (i - 1) ≡ i = omega arith in
+    digits-last o at (i - 1) n ∙ ap (λ (m : ℕ). sets o at (digitsOf m n)) e
+
+-- a row in three parts: number and answer, detail, lines
+pub row-parts : (n : ℕ) (word detail : List ℕ) (irq : ℕ) → rowText n word detail irq ≡ (decimalOf n ++ (9 ∷ []) ++ word ++ (9 ∷ [])) ++ detail ++ ((9 ∷ []) ++ hexOf irq ++ (10 ∷ []))
+unfolding rowText
+row-parts n word detail irq = simp append-assoc
+
+-- what a row without a step has between its number and its lines is fixed
+pub unread-parts : (n irq : ℕ) → unreadRow n irq ≡ decimalOf n ++ (9 ∷ 117 ∷ 110 ∷ 114 ∷ 101 ∷ 97 ∷ 100 ∷ 9 ∷ 45 ∷ []) ++ ((9 ∷ []) ++ hexOf irq ++ (10 ∷ []))
+unfolding rowText unreadText
+unread-parts n irq = simp append-assoc
+
+-- ---- lengths
+
+pick-le : (b : Bool) (x y k : ℕ) → x ≤ k → y ≤ k → pick b x y ≤ k
+pick-le b x y k p q = pick-keeps (λ (n : ℕ). n ≤ k) b (λ _. p) (λ _. q)
+
+pub width-le : (n : ℕ) → widthOf n ≤ 6
+unfolding widthOf
+width-le n =
+    pick-le (ltb n 10) 1 _ 6 (omega arith) (pick-le (ltb n 100) 2 _ 6 (omega arith)
+    (pick-le (ltb n 1000) 3 _ 6 (omega arith) (pick-le (ltb n 10000) 4 _ 6 (omega arith) (pick-le (ltb n 100000) 5 6 6 (omega arith) (omega arith)))))
+
+pub length-decimal : (n : ℕ) → length (decimalOf n) ≤ 6
+unfolding decimalOf
+length-decimal n = let e : length (digitsOf (widthOf n) n) ≡ widthOf n = length-digits (widthOf n) n in let h : widthOf n ≤ 6 = width-le n in omega arith
+
+pub length-hex : (v : ℕ) → length (hexOf v) ≡ 2
+unfolding hexOf
+length-hex v = refl
+
+pub length-hexes : (xs : List ℕ) → length (hexesOf xs) ≡ length xs + length xs
+unfolding hexesOf hexOf
+length-hexes [] = refl
+length-hexes (x ∷ xs) = let e : length (hexesOf xs) ≡ length xs + length xs = length-hexes xs in omega arith
+
+pub length-word : (w : Word) → length (wordText w) ≤ 9
+unfolding wordText
+length-word ok = omega arith
+length-word read = omega arith
+length-word stored = omega arith
+length-word queued = omega arith
+length-word heldoff = omega arith
+length-word heldback = omega arith
+length-word sent = omega arith
+length-word pulse = omega arith
+length-word refused = omega arith
+length-word overrun = omega arith
+length-word unmatched = omega arith
+length-word badframe = omega arith
+length-word ignored = omega arith
+length-word woke = omega arith
+length-word notsent = omega arith
+
+-- a row's number and answer with their tabs
+pub length-start : (n : ℕ) (w : Word) → length (decimalOf n ++ (9 ∷ []) ++ wordText w ++ (9 ∷ [])) ≤ 17
+length-start n w = simp length-append (omega (arith, length-decimal n, length-word w))
+
+pub length-kind : (k : SyncKind) → length (kindText k) ≡ 1
+unfolding kindText
+length-kind Normal = refl
+length-kind Alarm = refl
+
+-- the frame of a detail, none where it has no bytes
+abbrev pub frameIn : Detail → List ℕ
+frameIn dash = []
+frameIn (value v) = []
+frameIn (buffer n) = []
+frameIn (bytes f) = f
+frameIn (kind k) = []
+frameIn (number r) = []
+
+pub length-detail : (d : Detail) → length (frameIn d) ≤ 14 → length (detailText d) ≤ 28
+unfolding detailText
+length-detail dash h = omega arith
+length-detail (value v) h = omega (arith, length-hex v)
+length-detail (buffer n) h = omega (arith, length-hex n)
+length-detail (bytes f) h = omega (arith, length-hexes f)
+length-detail (kind k) h = omega (arith, length-kind k)
+length-detail (number r) h = omega (arith, length-hex r)
+
+-- an answer's detail holds no other frame than the one that was sent
+pub frame-sent : (a : Answer) (f : List ℕ) → length f ≤ 14 → length (frameIn (detailOf a f)) ≤ 14
+frame-sent Ok f h = omega arith
+frame-sent (Value v) f h = omega arith
+frame-sent (Stored n) f h = omega arith
+frame-sent (Queued n) f h = omega arith
+frame-sent (HeldOff n) f h = omega arith
+frame-sent (HeldBack n) f h = omega arith
+frame-sent (Sent k) f h = h
+frame-sent (Pulse k) f h = omega arith
+frame-sent (Refused r) f h = omega arith
+frame-sent Overrun f h = omega arith
+frame-sent Unmatched f h = omega arith
+frame-sent BadFrame f h = omega arith
+frame-sent Ignored f h = omega arith
+frame-sent Woke f h = omega arith
+frame-sent NotSent f h = omega arith
+
+-- a row's parts: at most 6, 9, 28 and 2 bytes, and four for the tabs and LF
+row-le : (n : ℕ) (word detail : List ℕ) (irq : ℕ) → length word ≤ 9 → length detail ≤ 28 → length (rowText n word detail irq) ≤ 64
+unfolding rowText
+row-le n word detail irq p q = simp length-append (omega (arith, length-decimal n, length-hex irq))
+
+-- no row is longer than the room that is asked for it
+pub length-row : (n : ℕ) (w : Word) (d : Detail) (irq : ℕ) → length (frameIn d) ≤ 14 → length (rowOf n w d irq) ≤ 64
+length-row n w d irq h = row-le n (wordText w) (detailText d) irq (length-word w) (length-detail d h)
+
+-- the row that is put for a step, whatever frame comes with its answer
+pub length-step : (n : ℕ) (a : Answer) (f : List ℕ) (irq : ℕ) → length (rowOf n (wordOf a) (detailOf a (take 14 f)) irq) ≤ 64
+length-step n a f irq =
+    let h : length (take 14 f) ≤ 14 = rw length-take (min-le-left 14 (length f)) in
+    length-row n (wordOf a) (detailOf a (take 14 f)) irq (frame-sent a (take 14 f) h)
+
+pub length-unread : (n irq : ℕ) → length (unreadRow n irq) ≤ 64
+unfolding unreadText
+length-unread n irq = row-le n unreadText (45 ∷ []) irq (omega arith) (omega arith)
+
+pub length-heading : length headingOf ≡ 23
+unfolding headingOf
+length-heading = refl

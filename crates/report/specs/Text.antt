@@ -1,0 +1,102 @@
+-- Document 01, 'The replay text': the report's heading and its rows, byte for byte, and what writing them does to a room.
+use Prim.Native.Nat.{ℕ, zero, suc, _+_, _/_, _%_}
+use mathlib.Core.Path.{_≡_}
+use mathlib.Core.List.{List, [], _∷_, _++_}
+use lib.ListN.{length}
+use lib.Seq.{sets}
+use lib.Dec.{ltb, leb}
+use Rattle.masks.specs.Pick.{pick}
+use Rattle.rules.specs.declared.SyncKind.{SyncKind}
+use Rattle.rules.specs.declared.SyncKind.the-variants.{Normal, Alarm}
+use Rattle.rules.specs.Answers.{Word, ok, read, stored, queued, heldoff, heldback, sent, pulse, refused, overrun, unmatched, badframe, ignored, woke, notsent, Detail, dash, value, buffer, bytes, kind, number}
+
+-- ---- numbers
+
+-- an upper-case hexadecimal digit
+unfoldable pub digitOf : ℕ → ℕ
+digitOf d = pick (ltb d 10) (48 + d) (55 + d)
+
+unfoldable pub hexOf : ℕ → List ℕ
+hexOf v = digitOf (v / 16) ∷ digitOf (v % 16) ∷ []
+
+unfoldable pub hexesOf : List ℕ → List ℕ
+hexesOf [] = []
+hexesOf (v ∷ vs) = hexOf v ++ hexesOf vs
+
+-- how many decimal digits a number below a million has
+unfoldable pub widthOf : ℕ → ℕ
+widthOf n = pick (ltb n 10) 1 (pick (ltb n 100) 2 (pick (ltb n 1000) 3 (pick (ltb n 10000) 4 (pick (ltb n 100000) 5 6))))
+
+-- the last k decimal digits of n
+unfoldable pub digitsOf : ℕ → ℕ → List ℕ
+digitsOf zero n = []
+digitsOf (suc k) n = digitsOf k (n / 10) ++ ((48 + n % 10) ∷ [])
+
+-- "Line numbers are decimal"; none is above 999,999
+unfoldable pub decimalOf : ℕ → List ℕ
+decimalOf n = digitsOf (widthOf n) n
+
+-- ---- words and details
+
+unfoldable pub wordText : Word → List ℕ
+wordText ok = 111 ∷ 107 ∷ []
+wordText read = 114 ∷ 101 ∷ 97 ∷ 100 ∷ []
+wordText stored = 115 ∷ 116 ∷ 111 ∷ 114 ∷ 101 ∷ 100 ∷ []
+wordText queued = 113 ∷ 117 ∷ 101 ∷ 117 ∷ 101 ∷ 100 ∷ []
+wordText heldoff = 104 ∷ 101 ∷ 108 ∷ 100 ∷ 111 ∷ 102 ∷ 102 ∷ []
+wordText heldback = 104 ∷ 101 ∷ 108 ∷ 100 ∷ 98 ∷ 97 ∷ 99 ∷ 107 ∷ []
+wordText sent = 115 ∷ 101 ∷ 110 ∷ 116 ∷ []
+wordText pulse = 112 ∷ 117 ∷ 108 ∷ 115 ∷ 101 ∷ []
+wordText refused = 114 ∷ 101 ∷ 102 ∷ 117 ∷ 115 ∷ 101 ∷ 100 ∷ []
+wordText overrun = 111 ∷ 118 ∷ 101 ∷ 114 ∷ 114 ∷ 117 ∷ 110 ∷ []
+wordText unmatched = 117 ∷ 110 ∷ 109 ∷ 97 ∷ 116 ∷ 99 ∷ 104 ∷ 101 ∷ 100 ∷ []
+wordText badframe = 98 ∷ 97 ∷ 100 ∷ 102 ∷ 114 ∷ 97 ∷ 109 ∷ 101 ∷ []
+wordText ignored = 105 ∷ 103 ∷ 110 ∷ 111 ∷ 114 ∷ 101 ∷ 100 ∷ []
+wordText woke = 119 ∷ 111 ∷ 107 ∷ 101 ∷ []
+wordText notsent = 110 ∷ 111 ∷ 116 ∷ 115 ∷ 101 ∷ 110 ∷ 116 ∷ []
+
+-- "unread"
+unfoldable pub unreadText : List ℕ
+unreadText = 117 ∷ 110 ∷ 114 ∷ 101 ∷ 97 ∷ 100 ∷ []
+
+-- N or A
+unfoldable pub kindText : SyncKind → List ℕ
+kindText Normal = 78 ∷ []
+kindText Alarm = 65 ∷ []
+
+-- "-", a value, number or buffer in hex, a sent frame's bytes, or the kind of a pulse
+unfoldable pub detailText : Detail → List ℕ
+detailText dash = 45 ∷ []
+detailText (value v) = hexOf v
+detailText (buffer n) = hexOf n
+detailText (bytes f) = hexesOf f
+detailText (kind k) = kindText k
+detailText (number r) = hexOf r
+
+-- ---- rows: number, answer, detail and the five lines, parted by tabs, ended by LF
+
+unfoldable pub rowText : ℕ → List ℕ → List ℕ → ℕ → List ℕ
+rowText n word detail irq = decimalOf n ++ (9 ∷ []) ++ word ++ (9 ∷ []) ++ detail ++ (9 ∷ []) ++ hexOf irq ++ (10 ∷ [])
+
+-- the row of a step
+abbrev pub rowOf : ℕ → Word → Detail → ℕ → List ℕ
+rowOf n w d irq = rowText n (wordText w) (detailText d) irq
+
+-- the row of a line that is no step
+abbrev pub unreadRow : ℕ → ℕ → List ℕ
+unreadRow n irq = rowText n unreadText (45 ∷ []) irq
+
+-- "Output starts with a fixed heading": line, answer, detail, irq
+unfoldable pub headingOf : List ℕ
+headingOf = 108 ∷ 105 ∷ 110 ∷ 101 ∷ 9 ∷ 97 ∷ 110 ∷ 115 ∷ 119 ∷ 101 ∷ 114 ∷ 9 ∷ 100 ∷ 101 ∷ 116 ∷ 97 ∷ 105 ∷ 108 ∷ 9 ∷ 105 ∷ 114 ∷ 113 ∷ 10 ∷ []
+
+-- ---- writing
+
+-- the text xs was put into the room o at index at: the room is now o′, and r is the index after the text
+pub record Put (o : List ℕ) (at : ℕ) (xs o′ : List ℕ) (r : ℕ) : Type 0 where
+  pub next : r ≡ at + length xs
+  pub text : o′ ≡ sets o at xs
+
+-- the text where 64 bytes of room are left for it, and nothing otherwise; no row is longer
+unfoldable pub fitting : List ℕ → ℕ → List ℕ → List ℕ
+fitting o at xs = pick (leb (at + 64) (length o)) xs []

@@ -1,0 +1,10 @@
+pub mod Blank
+pub mod Entries
+pub mod Joined
+pub mod Digits
+pub mod StepText
+pub mod FrameText
+pub mod TextRead
+pub mod Hiding
+pub mod Alike
+pub mod Blanked
