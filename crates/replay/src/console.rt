@@ -7,10 +7,10 @@ pub fn say(text: &[u8]) {
     io::write_all(STDERR_FILENO, text);
 }
 
-// A count with what it counts.
-pub fn tell(n: u32, text: &[u8]) {
-    io::print_decimal(STDERR_FILENO, n as u64);
+// What is counted, and the count.
+pub fn tell(text: &[u8], n: u32) {
     say(text);
+    io::print_decimal(STDERR_FILENO, n as u64);
 }
 
 // The program was asked for help.
