@@ -1,4 +1,3 @@
 pub mod Session
-pub mod Room
 pub mod SessionLaws
 pub mod Whole
