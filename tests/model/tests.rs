@@ -1,4 +1,4 @@
-//! What no recording can show: the room of a sent frame. Run by check.sh.
+//! What no recording can show: the room of a sent frame. Run by tests/compare.
 
 use crate::controller::*;
 

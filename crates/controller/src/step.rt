@@ -28,7 +28,7 @@ impl Controller {
         }
     }
 
-    // The call's own method.
+    // The call as a value, on a record by value: what its own method gives.
     pub fn step(self, call: Call, f: &[u8], room: &mut [u8]) -> Done
         ensures { λ r. ⌜ r ≡ doneOf (stepOf self (stepFor call (now (f .entry)) (now (room .entry)))) ⌝ }
         ensures { λ _. ⌜ now (room .exit) ≡ roomFor self call (now (room .entry)) ⌝ }

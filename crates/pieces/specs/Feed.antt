@@ -1,5 +1,5 @@
 -- A text that is fed byte by byte to something that acts on each line and writes for it: what is kept between two bytes, and
--- that feeding in any pieces writes what the whole text's lines give.
+-- what the whole text's lines give.
 use Prim.Native.Nat.{ℕ, _+_}
 use mathlib.Core.List.{List, [], _∷_, _++_}
 use mathlib.Core.Bool.{Bool, true, false, _&&_}

@@ -19,7 +19,7 @@ fn fits(size: usize, at: usize) -> bool
     at <= size - 64
 }
 
-// The row of a step: its line's number, its answer with the frame that was sent, of which only fourteen bytes count, and
+// The row of a step: its line's number (the last six digits of one above 999,999), its answer with the frame that was sent, of which only fourteen bytes count, and
 // the five lines after it. Answers the index behind the row. Where fewer than 64 bytes are left, nothing is written and the
 // index stays.
 pub fn row(out: &mut [u8], at: usize, n: u32, a: Answer, sent: &[u8], irq: u8) -> usize

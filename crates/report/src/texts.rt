@@ -10,7 +10,7 @@ use rules::Answer;
 use rules::SyncKind;
 
 // The bytes s.
-pub fn put(out: &mut [u8], at: usize, s: &[u8]) -> usize
+pub(crate) fn put(out: &mut [u8], at: usize, s: &[u8]) -> usize
     requires { ⌜ at + length (now s) ≤ length (now out) ⌝ }
     ensures { λ r. ⌜ Put (now (out .entry)) at (now (s .entry)) (now (out .exit)) r ⌝ }
 {
@@ -183,7 +183,7 @@ fn end(out: &mut [u8], at: usize, irq: u8) -> usize
 }
 
 // The row of a step.
-pub fn row(out: &mut [u8], at: usize, n: u32, a: Answer, sent: &[u8], irq: u8) -> usize
+pub(crate) fn row(out: &mut [u8], at: usize, n: u32, a: Answer, sent: &[u8], irq: u8) -> usize
     requires { ⌜ (at + 64 ≤ length (now out)) × (length (now sent) ≤ 14) ⌝ }
     ensures { λ r. ⌜ Put (now (out .entry)) at (rowOf n (wordOf a) (detailOf a (now (sent .entry))) irq) (now (out .exit)) r ⌝ }
 {
@@ -193,7 +193,7 @@ pub fn row(out: &mut [u8], at: usize, n: u32, a: Answer, sent: &[u8], irq: u8) -
 }
 
 // The row of a line that is no step.
-pub fn unread(out: &mut [u8], at: usize, n: u32, irq: u8) -> usize
+pub(crate) fn unread(out: &mut [u8], at: usize, n: u32, irq: u8) -> usize
     requires { ⌜ at + 64 ≤ length (now out) ⌝ }
     ensures { λ r. ⌜ Put (now (out .entry)) at (unreadRow n irq) (now (out .exit)) r ⌝ }
 {

@@ -60,10 +60,10 @@ stepsOf ls = onlySteps (stepsAt ls)
 pub data Entry : Type 0 where
   -- of a step
   stepped : Report → Entry
-  -- of an unread line: the five lines as they stand
+  -- of an unread line: the five interrupt lines as they stand
   unread : ℕ → Entry
 
--- steps take the reports in order, unread lines repeat the last five lines, irq at first; there is a report for each step
+-- steps take the reports in order, unread lines repeat the last five interrupt lines, irq at first; there is a report for each step
 -- (`run-length`)
 abbrev pub weave : ℕ → List (Option Step) → List Report → List Entry
 weave irq [] rs = []

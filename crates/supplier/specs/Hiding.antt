@@ -25,7 +25,7 @@ use Rattle.supplier.specs.StepText.{verdictByte, stepText, Bytes, Fits, 
 use Rattle.supplier.specs.FrameText.{line-says}
 use Rattle.supplier.specs.TextRead.{text-read, unread-read}
 
--- what is public of a line: its step with the payload put to 0, or that it is unread
+-- what is public of a line's step: the step with the payload put to 0, or that it is unread
 abbrev pub hideStep : Option Step → Option Step
 hideStep none = none
 hideStep (some e) = some (hide e)
