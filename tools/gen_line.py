@@ -3,9 +3,6 @@
 import os,sys
 sys.path.insert(0,os.path.dirname(os.path.abspath(__file__)))
 from walk import *
-crate="replaying"; modp=f"Rattle.{crate}.proofs"; spec=f"Rattle.{crate}.specs"
-Con=Decl("Controller","T","struct","controller",False)
-Tur=Decl("Turn","U","struct",crate,True)
 Hel=Decl("Held","Held-row","struct","pieces",False)
 Tal=Decl("Tally","Tally-row","struct",crate,True)
 Cal=Decl("Call","Call-row","enum","controller",False)
@@ -19,7 +16,6 @@ tok=lambda n:f"‵ (flft {kap(n)} {q(n)})"
 LT=["turn-ty","tyRef (named 0) mut rec-ty","sliceTy (tyRef (named 1) mut byte)","sliceTy (tyRef (named 2) imm byte)","word","sliceTy (tyRef (named 3) mut byte)","turn-ty",
     Ans.mir(),"byte","tyRef erased mut rec-ty","tyRef erased mut byte","sliceTy (tyRef erased mut byte)",Con.mir(),"tyRef erased mut byte","sliceTy (tyRef erased mut byte)","tyRef erased mut byte","sliceTy (tyRef erased mut byte)"]
 N=len(LT)
-G="{M : Type 1} (𝓤 : URA M) (H : Heap 𝓤) (A : Atoms 𝓤)"; AM="(at-mem : Memory → SProp 𝓤) (run : Routine → Fun 𝓤)"
 val={1:"vptr b o",2:"s-room (length room)",3:"s-piece",4:"vint w64 end",5:"s-out",6:Tur.val("t")}
 def item(l,val,extra):
     if l in extra: return extra[l]
@@ -259,17 +255,9 @@ abbrev Answered : {G} (mem : Memory → SProp 𝓤) (run : Routine → Fun 𝓤)
 Answered 𝓤 H A mem run = tripleOf 𝓤 H A answered.signature (answered.spec 𝓤 H A mem run)
 
 -- the types of the locals; that of `Turn` has its fields' types by name, so that a field's type is found with nothing computed
-abbrev byte : Ty
-byte = tyInt w8
+{TYPES}
 
-abbrev word : Ty
-word = tyInt w64
-
-abbrev rec-ty : Ty
-rec-ty = pointee (T.the-row .written)
-
-abbrev turn-ty : Ty
-turn-ty = tyStruct (U.struct .name) (tcons Held-row′.mir (tcons (tyInt w32) (tcons Tally-row′.mir (tcons byte (tcons word (tcons word (tcons tyBool (tcons Call-row′.mir (tcons Frame-row′.mir tnil)))))))))
+{TURN_TYPE}
 
 -- the machine value of a record
 abbrev mach : Controller → Val
@@ -279,19 +267,10 @@ mach = LL.val T.the-type T′.the-laws
 answer-is : (x : Answer) (vs : List Val) → Is {Ans.row()} x vs → {Ans.is_("x")}
 answer-is x vs g = subst (Is {Ans.row()} x) ({Ans.tells()} x vs g) g
 
-turn-is : (r : Turn) (vs : List Val) → Is U.the-row r vs → {Tur.is_("r")}
-turn-is r vs g = LL.owes U.the-type U′.the-laws r (LL.owed U.the-type U′.the-laws r vs g)
+{TURN_IS}
 
 module _ {G} (W : Given 𝓤 H A) {AM} ({" ".join(kap(n) for n in REFS)} : Lft) ({" ".join(q(n) for n in REFS)} : Share) (b o : ℕ) (γ : GName) (h : Controller) (b-room o-room : ℕ) (γ-room : GName) (room : List ℕ) (b-piece o-piece : ℕ) (γ-piece : GName) (piece : List ℕ) (end : ℕ) (b-out o-out : ℕ) (γ-out : GName) (out : List ℕ) (t : Turn) (room-room : Room u8 (length room)) (piece-room : Room u8 (length piece)) (end-fits : end < 2 ^ 64) (out-room : Room u8 (length out)) (t-is : {Tur.is_("t")}) where
-  -- the references, under a name and at a value
-  abbrev rec : GName → Controller → RefT Controller
-  rec δ c = record {{ ptr = (b, o); name = δ; now = c }}
-
-  abbrev room-ref : GName → List ℕ → RefT (List ℕ)
-  room-ref δ zs = record {{ ptr = (b-room, o-room); name = δ; now = zs }}
-
-  abbrev piece-ref : RefT (List ℕ)
-  piece-ref = record {{ ptr = (b-piece, o-piece); name = γ-piece; now = piece }}
+{REFERENCES}
 
   abbrev out-ref : RefT (List ℕ)
   out-ref = record {{ ptr = (b-out, o-out); name = γ-out; now = out }}
@@ -314,14 +293,7 @@ module _ {G} (W : Given 𝓤 H A) {AM} ({" ".join(kap(n) for n in REFS)} : Lft) 
   abbrev Post : Val → SProp 𝓤
   Post = walkOf 𝓤 H A this.ended stayed (this.clauses 𝓤 H A at-mem run) .post (({tup(kap(n) for n in REFS)}, {tup(q(n) for n in REFS)}, tt, a, at), tt)
 
-  abbrev Rec : Lft → GName → Controller → Fml
-  Rec κ′ δ c = MutRef (named 0) κ′ T.the-row .own (rec δ c) (vptr b o ∷ [])
-
-  abbrev Room′ : Lft → GName → List ℕ → ℕ → Fml
-  Room′ κ′ δ zs m = MutSlice (named 1) κ′ u8 .own (room-ref δ zs) (s-room m ∷ [])
-
-  abbrev Piece : Fml
-  Piece = ShrSlice (named 2) κ-piece u8 .own piece-ref (s-piece ∷ [])
+{OWNED}
 
   abbrev Out′ : Fml
   Out′ = MutSlice (named 3) κ-out u8 .own out-ref (s-out ∷ [])

@@ -3,9 +3,6 @@
 import os,sys
 sys.path.insert(0,os.path.dirname(os.path.abspath(__file__)))
 from walk import *
-crate="replaying"; modp=f"Rattle.{crate}.proofs"; spec=f"Rattle.{crate}.specs"
-Con=Decl("Controller","T","struct","controller",False)
-Tur=Decl("Turn","U","struct",crate,True)
 Len=Decl("Lent","S","struct",crate,True)
 REFS=["room","piece","out"]
 kap=lambda n:f"κ-{n}"
@@ -30,7 +27,6 @@ def lemma(com,name,pre,lhs,k,ctx,val,body):
           {body.strip()}
 """)
 us=lambda xs:"{"+" ".join(f"y{i}" for i in xs)+" : Val} "
-G="{M : Type 1} (𝓤 : URA M) (H : Heap 𝓤) (A : Atoms 𝓤)"; AM="(at-mem : Memory → SProp 𝓤) (run : Routine → Fun 𝓤)"
 MADE="record { controller = c; turn = r }"
 def joins(w,toks):
     w.emit("nothing ! $ "); w.give(0,["Z"])
@@ -174,14 +170,7 @@ abbrev Lines : {G} (mem : Memory → SProp 𝓤) (run : Routine → Fun 𝓤) �
 Lines 𝓤 H A mem run = tripleOf 𝓤 H A lines.signature (lines.spec 𝓤 H A mem run)
 
 -- types of locals
-abbrev byte : Ty
-byte = tyInt w8
-
-abbrev word : Ty
-word = tyInt w64
-
-abbrev rec-ty : Ty
-rec-ty = pointee (T.the-row .written)
+{TYPES}
 
 -- the machine values of a record and of what is returned
 abbrev mach : Controller → Val
@@ -191,8 +180,7 @@ abbrev mach-s : Lent → Val
 mach-s = LL.val S.the-type S′.the-laws
 
 -- the machine value that a turn is at is its own
-turn-is : (r : Turn) (vs : List Val) → Is U.the-row r vs → {Tur.is_("r")}
-turn-is r vs g = LL.owes U.the-type U′.the-laws r (LL.owed U.the-type U′.the-laws r vs g)
+{TURN_IS}
 
 -- what is owed of a `Lent` that is made
 made : (c : Controller) (r : Turn) → Is T.the-row c (mach c ∷ []) → {Tur.is_("r")} → Is S.the-row ({MADE}) (mach-s ({MADE}) ∷ [])

@@ -3,9 +3,6 @@
 import os,sys
 sys.path.insert(0,os.path.dirname(os.path.abspath(__file__)))
 from walk import *
-crate="replaying"; modp=f"Rattle.{crate}.proofs"; spec=f"Rattle.{crate}.specs"
-Con=Decl("Controller","T","struct","controller",False)
-Tur=Decl("Turn","U","struct",crate,True)
 REFS=["c","room","piece","out"]
 kap=lambda n:"κ" if n=="c" else f"κ-{n}"
 q=lambda n:"q" if n=="c" else f"q-{n}"
@@ -13,7 +10,6 @@ tok=lambda n:f"‵ (flft {kap(n)} {q(n)})"
 LT=["turn-ty","tyRef (named 0) mut rec-ty","sliceTy (tyRef (named 1) mut byte)","sliceTy (tyRef (named 2) imm byte)","word","sliceTy (tyRef (named 3) mut byte)","turn-ty","turn-ty","tyBool",
     "tyRef erased mut rec-ty","tyRef erased mut byte","sliceTy (tyRef erased mut byte)","tyRef erased mut byte","sliceTy (tyRef erased mut byte)"]
 N=len(LT); CELLS=[f"_{i}" for i in range(N)]; DIES=[f"d{i}" for i in range(N)]
-G="{M : Type 1} (𝓤 : URA M) (H : Heap 𝓤) (A : Atoms 𝓤)"; AM="(at-mem : Memory → SProp 𝓤) (run : Routine → Fun 𝓤)"
 PS="h room piece end out start"; PT="(h : Controller) (room piece : List ℕ) (end : ℕ) (out : List ℕ) (start : Turn)"
 RoomI=lambda k,d,zs,m:f"Room′ {par(k)} {d} {par(zs)} {par(m)}"
 OutI=lambda k,d,zs,m:f"Out′ {par(k)} {d} {par(zs)} {par(m)}"
@@ -191,21 +187,12 @@ abbrev Line : {G} (mem : Memory → SProp 𝓤) (run : Routine → Fun 𝓤) →
 Line 𝓤 H A mem run = tripleOf 𝓤 H A line.signature (line.spec 𝓤 H A mem run)
 
 -- the types of the locals; that of `Turn` has its fields' types by name, so that a field's type is found with nothing computed
-abbrev byte : Ty
-byte = tyInt w8
+{TYPES}
 
-abbrev word : Ty
-word = tyInt w64
-
-abbrev rec-ty : Ty
-rec-ty = pointee (T.the-row .written)
-
-abbrev turn-ty : Ty
-turn-ty = tyStruct (U.struct .name) (tcons Held-row′.mir (tcons (tyInt w32) (tcons Tally-row′.mir (tcons byte (tcons word (tcons word (tcons tyBool (tcons Call-row′.mir (tcons Frame-row′.mir tnil)))))))))
+{TURN_TYPE}
 
 -- the machine value that a turn is at is its own
-turn-is : (r : Turn) (vs : List Val) → Is U.the-row r vs → {Tur.is_("r")}
-turn-is r vs g = LL.owes U.the-type U′.the-laws r (LL.owed U.the-type U′.the-laws r vs g)
+{TURN_IS}
 
 -- where the loop stands, the record and the two rooms so far
 record State {PT} : Type 0 where
@@ -235,15 +222,7 @@ module _ {G} (W : Given 𝓤 H A) {AM} ({" ".join(kap(n) for n in REFS)} : Lft) 
   abbrev S : Type 0
   S = State {PS}
 
-  -- the references, under a name and at a value
-  abbrev rec : GName → Controller → RefT Controller
-  rec δ c = record {{ ptr = (b, o); name = δ; now = c }}
-
-  abbrev room-ref : GName → List ℕ → RefT (List ℕ)
-  room-ref δ zs = record {{ ptr = (b-room, o-room); name = δ; now = zs }}
-
-  abbrev piece-ref : RefT (List ℕ)
-  piece-ref = record {{ ptr = (b-piece, o-piece); name = γ-piece; now = piece }}
+{REFERENCES}
 
   abbrev out-ref : GName → List ℕ → RefT (List ℕ)
   out-ref δ os = record {{ ptr = (b-out, o-out); name = δ; now = os }}
@@ -266,14 +245,7 @@ module _ {G} (W : Given 𝓤 H A) {AM} ({" ".join(kap(n) for n in REFS)} : Lft) 
   abbrev Post : Val → SProp 𝓤
   Post = walkOf 𝓤 H A this.ended stayed (this.clauses 𝓤 H A at-mem run) .post {BOUND}
 
-  abbrev Rec : Lft → GName → Controller → Fml
-  Rec κ′ δ c = MutRef (named 0) κ′ T.the-row .own (rec δ c) (vptr b o ∷ [])
-
-  abbrev Room′ : Lft → GName → List ℕ → ℕ → Fml
-  Room′ κ′ δ zs m = MutSlice (named 1) κ′ u8 .own (room-ref δ zs) (s-room m ∷ [])
-
-  abbrev Piece : Fml
-  Piece = ShrSlice (named 2) κ-piece u8 .own piece-ref (s-piece ∷ [])
+{OWNED}
 
   abbrev Out′ : Lft → GName → List ℕ → ℕ → Fml
   Out′ κ′ δ os m = MutSlice (named 3) κ′ u8 .own (out-ref δ os) (s-out m ∷ [])

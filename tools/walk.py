@@ -79,3 +79,38 @@ class Decl:
     def peeks(self,x,vs): return f"peeks ! {self.row()} (Is {self.row()}) (shows 𝓤 H A {self.row()}) {par(x)} {vs} "
     def same(self,x,p): return f"(ap only ({self.tells()} {par(x)} _ {par(p)}))"
 def uint_owned(k,x,p): return f"owned ! {k} (Is {k}) (uint-makes 𝓤 H A W {WID[k]}) {par(x)} _ (refl, {p}) $ "
+
+# ---- what the walks of crate replaying share: the declared types, and the texts that stand in more than one of them
+crate="replaying"; modp=f"Rattle.{crate}.proofs"; spec=f"Rattle.{crate}.specs"
+Con=Decl("Controller","T","struct","controller",False)
+Tur=Decl("Turn","U","struct",crate,True)
+G="{M : Type 1} (𝓤 : URA M) (H : Heap 𝓤) (A : Atoms 𝓤)"; AM="(at-mem : Memory → SProp 𝓤) (run : Routine → Fun 𝓤)"
+TYPES="""abbrev byte : Ty
+byte = tyInt w8
+
+abbrev word : Ty
+word = tyInt w64
+
+abbrev rec-ty : Ty
+rec-ty = pointee (T.the-row .written)"""
+TURN_TYPE="""abbrev turn-ty : Ty
+turn-ty = tyStruct (U.struct .name) (tcons Held-row′.mir (tcons (tyInt w32) (tcons Tally-row′.mir (tcons byte (tcons word (tcons word (tcons tyBool (tcons Call-row′.mir (tcons Frame-row′.mir tnil)))))))))"""
+TURN_IS=f"""turn-is : (r : Turn) (vs : List Val) → Is U.the-row r vs → {Tur.is_("r")}
+turn-is r vs g = LL.owes U.the-type U′.the-laws r (LL.owed U.the-type U′.the-laws r vs g)"""
+REFERENCES=f"""  -- the references, under a name and at a value
+  abbrev rec : GName → Controller → RefT Controller
+  rec δ c = record {{ ptr = (b, o); name = δ; now = c }}
+
+  abbrev room-ref : GName → List ℕ → RefT (List ℕ)
+  room-ref δ zs = record {{ ptr = (b-room, o-room); name = δ; now = zs }}
+
+  abbrev piece-ref : RefT (List ℕ)
+  piece-ref = record {{ ptr = (b-piece, o-piece); name = γ-piece; now = piece }}"""
+OWNED="""  abbrev Rec : Lft → GName → Controller → Fml
+  Rec κ′ δ c = MutRef (named 0) κ′ T.the-row .own (rec δ c) (vptr b o ∷ [])
+
+  abbrev Room′ : Lft → GName → List ℕ → ℕ → Fml
+  Room′ κ′ δ zs m = MutSlice (named 1) κ′ u8 .own (room-ref δ zs) (s-room m ∷ [])
+
+  abbrev Piece : Fml
+  Piece = ShrSlice (named 2) κ-piece u8 .own piece-ref (s-piece ∷ [])"""

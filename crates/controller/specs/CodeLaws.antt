@@ -75,7 +75,7 @@ abbrev pub placing : Control → ℕ → List ℕ → Answer → Change
 placing d n b a = record { control = d; place = n; bytes = b; answer = a }
 
 module _ (c : Controller) (x : Change) (d : Control) (a : Answer) where
-  -- the record and answer with some bytes
+  -- the record with these bytes, and the answer
   abbrev given : List Contents → Done
   given rows = record { next = record { control = d; rows = rows }; answer = a }
 
