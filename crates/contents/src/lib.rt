@@ -7,6 +7,7 @@ ghost use Rattle.contents.specs.Bytes.{cut, withIdent, withLength, withD
 ghost use Rattle.contents.specs.Room.{roomAfter};
 
 // Identifier, length, data 0 to 11: fourteen bytes that travel as one array, copied whole.
+#[repr(C)]
 pub struct Contents {
     pub bytes: [u8; 14],
 }

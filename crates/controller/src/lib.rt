@@ -11,6 +11,7 @@ use rules::Control;
 use rules::Fault;
 use rules::SyncKind;
 
+#[repr(C)]
 pub struct Controller {
     pub control: Control,
     pub rows: [Contents; 16],

@@ -3,6 +3,7 @@ ghost use mathlib.Core.Path.{_≡_};
 ghost use Rattle.filter.specs.Match.{matches};
 
 // An identifier pattern and its mask: acceptance is $0C and $0D, rejection $14 and $15.
+#[repr(C)]
 pub struct Filter {
     pub pattern: u8,
     pub mask: u8,

@@ -4,6 +4,7 @@ ghost use Rattle.masks.specs.Bits.{maskOf};
 ghost use Rattle.locks.specs.Pair.{hasHolder, hasContender, inPair, isFull, takeLock, releaseLock};
 
 // Holder and contender, by buffer number; 16 stands for none.
+#[repr(C)]
 pub struct Locks {
     pub holder: u8,
     pub contender: u8,

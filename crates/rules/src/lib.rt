@@ -74,6 +74,7 @@ pub enum Answer {
 }
 
 // $00, synchronization, and the largest identifier on the bus since the last sync.
+#[repr(C)]
 pub struct Mode {
     // INITRQ and INITAK, which are never apart
     pub init: bool,
@@ -88,6 +89,7 @@ pub struct Mode {
 }
 
 // What the application sets up: FSIZ, the three timing registers, the interrupt enables, the FIFO's filters, BFEN.
+#[repr(C)]
 pub struct Config {
     pub fsiz: u8,
     pub tcr1: u8,
@@ -101,6 +103,7 @@ pub struct Config {
 }
 
 // The event flags of $06 and $07, at their bits, and a SYNLIF clear that waits for the next sync.
+#[repr(C)]
 pub struct Events {
     pub risr: u8,
     pub gisr: u8,
@@ -108,6 +111,7 @@ pub struct Events {
 }
 
 // The FIFO: its oldest entry's place, the place for the next frame, the number of entries, and its lock.
+#[repr(C)]
 pub struct Fifo {
     pub oldest: u8,
     pub next: u8,
@@ -116,6 +120,7 @@ pub struct Fifo {
 }
 
 // The buffers' control bits, one mask a bit: bit n stands for buffer n. Armed: sent at its slot in this cycle.
+#[repr(C)]
 pub struct Buffers {
     pub cfg: u16,
     pub iena: u16,
@@ -125,6 +130,7 @@ pub struct Buffers {
 }
 
 // The control state.
+#[repr(C)]
 pub struct Control {
     pub mode: Mode,
     pub config: Config,
