@@ -1,3 +1,4 @@
 pub mod Session
 pub mod SessionLaws
 pub mod Whole
+pub mod Runs

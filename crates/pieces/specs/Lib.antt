@@ -4,3 +4,4 @@ pub mod FeedLaws
 pub mod Whole
 pub mod Gather
 pub mod GatherLaws
+pub mod Parts

@@ -7,3 +7,4 @@ pub mod OpenLaws
 pub mod SeekLaws
 pub mod TurnLaws
 pub mod SessionLaws
+pub mod Runs

@@ -1,11 +1,11 @@
 -- What the public functions promise: a session in terms of the text that was fed to it.
-use Prim.Native.Nat.{ℕ, _/_, _≤_, min}
+use Prim.Native.Nat.{ℕ, _/_, min}
 use mathlib.Core.Path.{_≡_}
 use mathlib.Core.List.{List}
 use lib.ListN.{length, take}
 use lib.Dec.{leb, eqb}
 use Rattle.masks.specs.Pick.{pick}
-use Rattle.report.specs.Text.{Put, fitting}
+use Rattle.report.specs.Text.{Wrote, fitting}
 use Rattle.pieces.specs.Feed.{Feed, endLine, endOf, outOf, lastOf}
 use Rattle.replaying.specs.declared.Player.{Player}
 use Rattle.replaying.specs.declared.Session.{Session}
@@ -16,12 +16,6 @@ use Rattle.replaying.specs.Replay.{play, showRow}
 -- what is kept between two bytes of the text
 abbrev pub feedOf : Session → Feed Player
 feedOf s = record { state = s .player; held = s .held; number = s .number }
-
--- the text xs stands at the start of the room, and r is its length, which is within the room
-pub record Wrote (out xs : List ℕ) (r : ℕ) (out′ : List ℕ) : Type 0 where
-  pub put : Put out 0 xs out′ r
-  pub within : r ≤ length out′
-  pub counts : r ≡ length (take r out′)
 
 -- `feed`: a byte of the piece is taken for each 64 bytes of room, and the rows of the lines that end in those bytes stand
 -- at the start of the room

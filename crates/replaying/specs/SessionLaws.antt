@@ -9,9 +9,8 @@ use lib.ListN.{length, take, replicate}
 use lib.Dec.{leb}
 use Rattle.masks.specs.Pick.{pick, pick-true, pick-false}
 use Rattle.controller.specs.declared.Controller.{Controller}
-use Rattle.report.specs.Text.{Put, fitting, headingOf}
-use Rattle.report.specs.Laws.{none, kept, fits, tight, length-heading}
-use lib.Seq.{length-take-le}
+use Rattle.report.specs.Text.{Put, Wrote, fitting, headingOf}
+use Rattle.report.specs.Laws.{none, wrote, fits, tight, length-heading}
 use Rattle.pieces.specs.Feed.{Feed, endLine, byteS, byteO, endOf, outOf, lastOf}
 use Rattle.replaying.specs.declared.Player.{Player}
 use Rattle.replaying.specs.declared.Session.{Session}
@@ -19,15 +18,8 @@ use Rattle.replaying.specs.declared.Fed.{Fed}
 use Rattle.replaying.specs.declared.Finished.{Finished}
 use Rattle.replaying.specs.declared.Turn.{Turn}
 use Rattle.replaying.specs.Replay.{play, showRow}
-use Rattle.replaying.specs.Session.{feedOf, Wrote, Feeds, finishedOf, Finishes}
+use Rattle.replaying.specs.Session.{feedOf, Feeds, finishedOf, Finishes}
 use Rattle.replaying.specs.Turn.{opened, closed, Open, Settled, Seeks, Plays}
-
--- a text that was put within the room
-pub wrote : {out xs out′ : List ℕ} {r : ℕ} → Put out 0 xs out′ r → r ≤ length out → Wrote out xs r out′
-wrote {out} {xs} {out′} {r} p h =
-    let e : length out′ ≡ length out = kept p in
-    let k : r ≤ length out′ = omega arith in
-    record { put = p; within = k; counts = sym (length-take-le r out′ k) }
 
 -- ---- a piece
 

@@ -3,9 +3,9 @@ mod in_place;
 mod turns;
 
 ghost use mathlib.Core.Path.{_≡_};
-ghost use Rattle.report.specs.Text.{fitting, headingOf};
+ghost use Rattle.report.specs.Text.{Wrote, fitting, headingOf};
 ghost use Rattle.replaying.specs.Replay.{startOf};
-ghost use Rattle.replaying.specs.Session.{feedOf, Wrote, Feeds, Finishes};
+ghost use Rattle.replaying.specs.Session.{feedOf, Feeds, Finishes};
 ghost use Rattle.replaying.specs.Turn.{opened, closed};
 use controller::Call;
 use controller::Controller;

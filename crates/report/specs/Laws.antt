@@ -8,7 +8,7 @@ use mathlib.Core.List.{List, [], _∷_, _++_, append-assoc, append-nil}
 use mathlib.Core.Bool.{Bool}
 use borrow.Author.Tests.{leb-true, le-leb, lt-leb}
 use lib.ListN.{length, length-append, length-take, set, take, drop, getD}
-use lib.Seq.{sets, length-sets, take-suc, length-take-le, set-comm}
+use lib.Seq.{sets, length-sets, sets-eq, take-suc, take-at, drop-at, length-take-le, set-comm}
 use lib.Dec.{ltb, leb}
 use Rattle.masks.specs.Pick.{pick, pick-true, pick-false, pick-keeps}
 use Rattle.rules.specs.declared.SyncKind.{SyncKind}
@@ -16,7 +16,7 @@ use Rattle.rules.specs.declared.SyncKind.the-variants.{Normal, Alarm}
 use Rattle.rules.specs.declared.Answer.{Answer}
 use Rattle.rules.specs.declared.Answer.the-variants.{Ok, Value, Stored, Queued, HeldOff, HeldBack, Sent, Pulse, Refused, Overrun, Unmatched, BadFrame, Ignored, Woke, NotSent}
 use Rattle.rules.specs.Answers.{Word, ok, read, stored, queued, heldoff, heldback, sent, pulse, refused, overrun, unmatched, badframe, ignored, woke, notsent, Detail, dash, value, buffer, bytes, kind, number, detailOf, wordOf}
-use Rattle.report.specs.Text.{hexOf, hexesOf, digitsOf, widthOf, decimalOf, wordText, unreadText, kindText, detailText, rowText, rowOf, unreadRow, headingOf, Put, fitting}
+use Rattle.report.specs.Text.{hexOf, hexesOf, digitsOf, widthOf, decimalOf, wordText, unreadText, kindText, detailText, rowText, rowOf, unreadRow, headingOf, Put, Wrote, fitting}
 
 -- ---- texts one behind the other
 
@@ -56,6 +56,32 @@ within {o} {a} {xs} {p} {r} h q = record {
   next = ap (λ (n : ℕ). a + n) (q .next ∙ zero-add (length xs));
   text = ap (λ (l : List ℕ). take a o ++ l) (q .text) ∙ sym (sets-drop a o xs h);
 }
+
+-- ---- a text at the start of a room
+
+-- a text that was put within the room
+pub wrote : {out xs out′ : List ℕ} {r : ℕ} → Put out 0 xs out′ r → r ≤ length out → Wrote out xs r out′
+wrote {out} {xs} {out′} {r} p h =
+    let e : length out′ ≡ length out = kept p in
+    let k : r ≤ length out′ = omega arith in
+    record { put = p; within = k; counts = sym (length-take-le r out′ k) }
+
+-- it can be read there, and the rest of the room is as before
+module _ {out xs : List ℕ} {r : ℕ} {out′ : List ℕ} (w : Wrote out xs r out′) where
+  size : length xs ≡ r
+  size = sym (w .put .next ∙ zero-add (length xs))
+
+  room-after : out′ ≡ xs ++ drop r out
+  room-after =
+      let e : length out′ ≡ length out = kept (w .put) in
+      let k : 0 + length xs ≤ length out = omega (arith, w .within, w .put .next) in
+      w .put .text ∙ sets-eq xs out 0 k ∙ ap (λ (n : ℕ). xs ++ drop n out) (sym (w .put .next))
+
+  pub text-written : take r out′ ≡ xs
+  text-written = ap (take r) room-after ∙ take-at xs (drop r out) r size
+
+  pub rest-kept : drop r out′ ≡ drop r out
+  rest-kept = ap (drop r) room-after ∙ drop-at xs (drop r out) r size
 
 -- ---- the room that is left
 

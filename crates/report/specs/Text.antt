@@ -1,8 +1,8 @@
 -- Document 01, 'The replay text': the report's heading and its rows, byte for byte, and what writing them does to a room.
-use Prim.Native.Nat.{ℕ, zero, suc, _+_, _/_, _%_}
+use Prim.Native.Nat.{ℕ, zero, suc, _+_, _/_, _%_, _≤_}
 use mathlib.Core.Path.{_≡_}
 use mathlib.Core.List.{List, [], _∷_, _++_}
-use lib.ListN.{length}
+use lib.ListN.{length, take}
 use lib.Seq.{sets}
 use lib.Dec.{ltb, leb}
 use Rattle.masks.specs.Pick.{pick}
@@ -96,6 +96,12 @@ headingOf = 108 ∷ 105 ∷ 110 ∷ 101 ∷ 9 ∷ 97 ∷ 110 ∷ 115 ∷ 119 ∷
 pub record Put (o : List ℕ) (at : ℕ) (xs o′ : List ℕ) (r : ℕ) : Type 0 where
   pub next : r ≡ at + length xs
   pub text : o′ ≡ sets o at xs
+
+-- the text xs stands at the start of the room, the rest of which is as before; r is its length, which is within the room
+pub record Wrote (out xs : List ℕ) (r : ℕ) (out′ : List ℕ) : Type 0 where
+  pub put : Put out 0 xs out′ r
+  pub within : r ≤ length out′
+  pub counts : r ≡ length (take r out′)
 
 -- the text where 64 bytes of room are left for it, and nothing otherwise; no row is longer
 unfoldable pub fitting : List ℕ → ℕ → List ℕ → List ℕ
