@@ -1,0 +1,4 @@
+pub mod Interface
+pub mod Laws
+pub mod Code
+pub mod CodeLaws

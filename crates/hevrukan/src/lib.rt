@@ -1,0 +1,82 @@
+// The emulated controller for callers in C: a record that the caller owns, and steps on it by numbers. Each function but the
+// first is given the record's size and looks at that alone where it is another, so that a caller that was built for another
+// record is told so.
+mod answers;
+mod calls;
+
+ghost use mathlib.Core.Path.{_≡_};
+ghost use Rattle.hevrukan.specs.Interface.{recordSize, stepEffect, resetNext, resetAnswer, linesAnswer};
+use controller::Call;
+use controller::Controller;
+
+// The bytes of a record: a test holds it to C's sizeof of the same fields.
+const SIZE: usize = 266;
+
+// Answers that no step of the controller has: 256 times 64 and 65.
+const UNKNOWN: u32 = 16384;
+
+const WRONG_SIZE: u32 = 16640;
+
+// What a kind and its two numbers stand for.
+enum Asked {
+    Step(Call),
+    Unknown,
+}
+
+// The call to make where the answer is 0; any other answer is given as it is, and nothing is done.
+struct Request {
+    call: Call,
+    answer: u32,
+}
+
+// The bytes of a record.
+#[no_mangle]
+pub extern "C" fn hevrukan_size() -> usize
+    ensures { λ r. ⌜ r ≡ recordSize ⌝ }
+{
+    SIZE
+}
+
+// The record as after reset, whatever it held.
+#[no_mangle]
+pub extern "C" fn hevrukan_reset(c: &mut Controller, size: usize) -> u32
+    ensures { λ r. ⌜ (now (c .exit) ≡ resetNext (now (c .entry)) size) × (r ≡ resetAnswer size) ⌝ }
+{
+    if size != SIZE {
+        return WRONG_SIZE;
+    }
+    *c = Controller::after_reset();
+    0
+}
+
+// The step of a kind. Only a frame looks at the frame's bytes, and only a slot at the room.
+#[no_mangle]
+pub extern "C" fn hevrukan_step(
+    c: &mut Controller,
+    size: usize,
+    kind: u32,
+    first: u32,
+    second: u32,
+    frame: &[u8],
+    room: &mut [u8],
+) -> u32
+    ensures { λ r. ⌜ stepEffect (now (c .entry)) size kind first second (now (frame .entry)) (now (room .entry)) ≡ record { next = now (c .exit); answer = r; room = now (room .exit) } ⌝ }
+{
+    let asked = calls::requested(size, kind, first, second);
+    if asked.answer != 0 {
+        return asked.answer;
+    }
+    let bytes = calls::frame_bytes(frame);
+    answers::number(c.step_in_place(asked.call, bytes, room))
+}
+
+// The five lines, 0 to 31: bit 4 FIFO, 3 receive, 2 sync, 1 XSYNC, 0 general.
+#[no_mangle]
+pub extern "C" fn hevrukan_lines(c: &Controller, size: usize) -> u32
+    ensures { λ r. ⌜ r ≡ linesAnswer (now (c .entry)) size ⌝ }
+{
+    if size != SIZE {
+        return WRONG_SIZE;
+    }
+    answers::wide((*c).lines())
+}

@@ -1,0 +1,248 @@
+"""The edges of python/hevrukan.py, and that its names are those of the C header. tests/interface runs it."""
+
+import ctypes
+import glob
+import os
+import re
+import subprocess
+import sys
+import unittest
+
+TOP = os.path.dirname(os.path.dirname(os.path.realpath(__file__)))
+sys.path.insert(0, os.path.join(TOP, "python"))
+import hevrukan
+from hevrukan import *
+
+LARGE = [256, 256 + 0x41, 2**32, 2**32 + 1, 2**70]
+
+
+def text_of(*path):
+    with open(os.path.join(TOP, *path)) as file:
+        return file.read()
+
+
+def bytes_of(c):
+    return bytes(c._record)
+
+
+def registers_of(c):
+    return [c.read(address) for address in range(0x60)]
+
+
+def running():
+    """Synchronized; buffers 0 and 1 are the FIFO, 3 receives $21, 15 is to send $41 and armed."""
+    c = Controller()
+    c.write(BFFSIZR, 2)
+    c.write(BFBUFCTL(3), LOCK)
+    c.write(BFRIDENT, 0x21)
+    c.write(BFBUFCTL(3), IENA)
+    c.write(BFBUFCTL(15), CFG | LOCK)
+    c.write(BFTIDENT, 0x41)
+    c.write(BFTLEN, 2)
+    c.write(BFTDATA(0), 0x10)
+    c.write(BFTDATA(1), 0x64)
+    c.write(BFBUFCTL(15), CFG)
+    c.write(BFPCTLBF, BFEN)
+    c.write(BFMCR, 0)
+    c.write(BFBUFCTL(15), CFG | IFLG)
+    c.sync()
+    return c
+
+
+def asleep():
+    c = running()
+    c.write(BFMCR, SLPRQ)
+    return c
+
+
+def crowded():
+    """In initialization, with a receive holder and contender, and a layout that isn't lawful."""
+    c = Controller()
+    c.write(BFBUFCTL(0), LOCK)
+    c.write(BFBUFCTL(1), LOCK)
+    c.write(BFBUFCTL(2), CFG)
+    return c
+
+
+class Edges(unittest.TestCase):
+    def refused(self, number, c, step, *arguments, **named):
+        before = bytes_of(c)
+        with self.assertRaises(Refused) as caught:
+            getattr(c, step)(*arguments, **named)
+        self.assertEqual(caught.exception.number, number)
+        self.assertEqual(caught.exception.text, REFUSALS[number])
+        self.assertEqual(str(caught.exception), f"refused {number}: {REFUSALS[number]}")
+        self.assertEqual(bytes_of(c), before)
+
+    def unknown(self, step, *arguments, **named):
+        c = running()
+        before = bytes_of(c)
+        with self.assertRaises(Unknown) as caught:
+            getattr(c, step)(*arguments, **named)
+        self.assertIsInstance(caught.exception, ValueError)
+        self.assertIn(step, str(caught.exception))
+        self.assertEqual(bytes_of(c), before)
+
+    def test_refusals(self):
+        self.refused(1, running(), "read", 0x60)
+        self.refused(2, asleep(), "read", BFRIVEC)
+        self.refused(3, running(), "write", BFRIVEC, 0)
+        self.refused(4, running(), "write", BFRIDENT, 0x22)
+        self.refused(5, running(), "write", BFTIDENT, 0x42)
+        self.refused(6, Controller(), "write", BFFSIZR, 17)
+        self.refused(7, crowded(), "write", BFBUFCTL(0), CFG | LOCK)
+        self.refused(8, crowded(), "write", BFMCR, 0)
+        self.refused(9, running(), "write", BFBUFCTL(1), LOCK)
+        self.refused(10, crowded(), "write", BFBUFCTL(3), LOCK)
+        self.refused(11, running(), "frame", b"\x21\x02\x55")
+        self.refused(12, running(), "slot", 0x41, room=13)
+
+    def test_large_address_is_refused(self):
+        for address in LARGE:
+            self.refused(1, running(), "read", address)
+            self.refused(1, running(), "write", address, LOCK)
+
+    def test_unknown_numbers(self):
+        for number in LARGE + [-1, -256]:
+            self.unknown("write", BFMCR, number)
+            self.unknown("sync", number)
+            self.unknown("slot", number)
+            self.unknown("fault", number)
+            self.unknown("frame", b"\x21\x00", number)
+        self.unknown("read", -1)
+        self.unknown("write", -1, 0)
+        self.unknown("slot", 0x41, room=-1)
+        self.unknown("sync", 2)
+        self.unknown("fault", 4)
+        self.unknown("frame", b"\x21\x00", 2)
+
+    def test_types(self):
+        c = Controller()
+        for step, *arguments in (("read", "0"), ("write", 0, 1.0), ("frame", 14), ("frame", "2100"), ("slot", None)):
+            self.assertRaises(TypeError, getattr(c, step), *arguments)
+
+    def test_frames(self):
+        for size in (0, 1, 15, 40, 270):
+            for c in (Controller(), running(), asleep()):
+                self.refused(11, c, "frame", (b"\x21\x0c" + bytes(300))[:size])
+        for data in (b"\x21\x02\xaa\x00", bytearray(b"\x21\x02\xaa\x00"), [0x21, 2, 0xAA, 0]):
+            self.assertEqual(running().frame(data), Answer("stored", 3))
+        self.assertEqual(running().frame(b"\x21\x0f" + bytes(12)), ("stored", 3))
+        self.assertEqual(running().frame(b"\x21\x00", good=False), ("badframe", None))
+        self.assertEqual(running().frame(b"\x22\x00"), ("unmatched", None))
+
+    def test_rooms(self):
+        for room in (0, 1, 13):
+            self.refused(12, running(), "slot", 0x41, room=room)
+        for room in (14, 15, 1000):
+            self.assertEqual(running().slot(0x41, room=room), Answer("sent", b"\x41\x02\x10\x64"))
+        self.assertEqual(running().slot(0x42), ("notsent", None))
+
+    def test_events(self):
+        c = Controller()
+        c.write(BFMCR, MASTER | ALARM)
+        c.write(BFRIER, SYNAIE)
+        self.assertEqual(c.sync_due(), ("pulse", ALARM_PULSE))
+        self.assertEqual(c.lines(), LINE_SYNC)
+        self.assertEqual(c.timeout(), ("ok", None))
+        self.assertEqual(c.sync_due(), ("pulse", NORMAL_PULSE))
+        self.assertEqual(c.fault(LOST), ("ok", None))
+        self.assertEqual(c.read(BFGISR), SYNLIF)
+        self.assertEqual(c.frame(b"\x21\x00"), ("ignored", None))
+        self.assertEqual(asleep().sync(ALARM_PULSE), ("woke", None))
+        self.assertEqual(c.reset(), ("ok", None))
+        self.assertEqual(registers_of(c), registers_of(Controller()))
+
+    def test_copy(self):
+        c = running()
+        d = c.copy()
+        self.assertEqual(bytes_of(c), bytes_of(d))
+        self.assertEqual(c.slot(0x41), d.slot(0x41))
+        self.assertEqual(registers_of(c), registers_of(d))
+        c.reset()
+        self.assertNotEqual(registers_of(c), registers_of(d))
+
+    def test_wrong_size(self):
+        size = library().hevrukan_size()
+        c = running()
+        before = bytes_of(c)
+        room = ctypes.create_string_buffer(14)
+        for wrong in (0, size - 1, size + 1):
+            self.assertEqual(library().hevrukan_reset(c._record, wrong), 65 * 256)
+            self.assertEqual(library().hevrukan_lines(c._record, wrong), 65 * 256)
+            self.assertEqual(library().hevrukan_step(c._record, wrong, 5, 0x41, 0, b"", 0, room, 14), 65 * 256)
+            c._size = wrong
+            self.assertRaises(WrongSize, c.sync)
+            self.assertRaises(WrongSize, c.lines)
+            c._size = size
+        self.assertEqual(bytes_of(c), before)
+        self.assertEqual(room.raw, bytes(14))
+
+
+class Library(unittest.TestCase):
+    def test_missing_library_is_named(self):
+        code = "import hevrukan; hevrukan.Controller()"
+        python = dict(os.environ, PYTHONPATH=os.path.join(TOP, "python"), HEVRUKAN_LIBRARY="/nowhere/libhevrukan.so")
+        ran = subprocess.run([sys.executable, "-B", "-c", code], env=python, stderr=subprocess.PIPE, universal_newlines=True)
+        self.assertNotEqual(ran.returncode, 0)
+        last = ran.stderr.splitlines()[-1]
+        self.assertIn("/nowhere/libhevrukan.so", last)
+        self.assertIn("./hevrukan library builds it", last)
+
+    def test_library_beside_the_repository(self):
+        named = os.environ.pop("HEVRUKAN_LIBRARY", None)
+        try:
+            self.assertEqual(hevrukan.library_path(), os.path.join(TOP, "target", "lib", "libhevrukan.so"))
+        finally:
+            if named is not None:
+                os.environ["HEVRUKAN_LIBRARY"] = named
+
+
+class Names(unittest.TestCase):
+    """The header has each name once, Python again, and the proved code a third time: they agree."""
+
+    header = text_of("include", "hevrukan.h")
+
+    def test_registers_and_bits(self):
+        registers = re.findall(r"^    (BF[A-Z0-9]+) = (0x\w\w)\b", self.header, re.M)
+        bits = re.findall(r"^    BF_(\w+) = (0x\w\w)\b", self.header, re.M)
+        enables = re.findall(r"^    BF_(\w+) = BF_(\w+)\b", self.header, re.M)
+        self.assertEqual((len(registers), len(bits), len(enables)), (28, 31, 14))
+        for name, value in registers + bits:
+            self.assertEqual(getattr(hevrukan, name), int(value, 16), name)
+        for name, flag in enables:
+            self.assertEqual(getattr(hevrukan, name), getattr(hevrukan, flag), name)
+        for name, value in re.findall(r"^#define (BF\w+)\(n\) \((0x\w\w) \+ \(n\)\)", self.header, re.M):
+            self.assertEqual(getattr(hevrukan, name)(3), int(value, 16) + 3, name)
+
+    def test_proved_bits(self):
+        (bits,) = glob.glob(os.path.join(TOP, "crates", "*", "src", "bits.rt"))
+        proved = dict(re.findall(r"^pub const (\w+): u8 = (0x\w\w);", text_of(bits), re.M))
+        found = [name for name in proved if hasattr(hevrukan, name)]
+        self.assertEqual(len(found), 32)
+        for name in found:
+            self.assertEqual(getattr(hevrukan, name), int(proved[name], 16), name)
+
+    def test_numbers(self):
+        constants = dict(re.findall(r"\bHEVRUKAN_(\w+) = (\w+)", self.header))
+        for number, word in enumerate(hevrukan._WORDS):
+            self.assertEqual(constants[word.upper()], str(number))
+        for name in ("READ", "WRITE", "SYNC", "SYNC_DUE", "SLOT", "FRAME", "FAULT", "TIMEOUT"):
+            self.assertEqual(constants["KIND_" + name], str(getattr(hevrukan, "_" + name)))
+        for name in ("EARLY", "LOST", "ILLEGAL", "MISMATCH"):
+            self.assertEqual(constants[name], str(getattr(hevrukan, name)))
+        for name in ("LINE_FIFO", "LINE_RECEIVE", "LINE_SYNC", "LINE_XSYNC", "LINE_GENERAL"):
+            self.assertEqual(int(constants[name], 16), getattr(hevrukan, name))
+        self.assertEqual((constants["NORMAL"], constants["ALARM"]), (str(NORMAL_PULSE), str(ALARM_PULSE)))
+
+    def test_refusal_texts(self):
+        texts = re.findall(r'case (\d+): return "(.*)";', self.header)
+        self.assertEqual({int(number): text for number, text in texts}, REFUSALS)
+
+    def test_size(self):
+        (size,) = re.findall(r"^#define HEVRUKAN_SIZE (\d+)", self.header, re.M)
+        self.assertEqual(library().hevrukan_size(), int(size))
+
+
+if __name__ == "__main__":
+    unittest.main()
