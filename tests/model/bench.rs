@@ -1,5 +1,6 @@
 //! Time per step over fixed sequences, each of them a set-up and then a cycle that is repeated from
 //! its start until so many steps are done. The state carries on from one round to the next.
+//! beside.rs times the product on the same sequences.
 //! `model sequence NAME N` writes a sequence as a recording: the set-up, then N steps of the cycle.
 //!
 //! Steps are given as in the replay text; a number with $ is hex, any other decimal. The set-up of all:
@@ -123,49 +124,75 @@ fn cycle(name: &str) -> Script {
     script
 }
 
-/// Best time of one step in nanoseconds.
-fn time(name: &str, count: usize) -> f64 {
-    let script = set_up(name);
-    let mut frames = script.frames();
-    let mut controller = Controller::new();
-    let mut room = [0; CONTENTS];
-    for step in script.steps(&mut frames) {
-        controller.step(&step, &mut room);
-    }
-    let script = cycle(name);
-    let mut frames = script.frames();
-    let steps = script.steps(&mut frames);
-    let mut best = f64::INFINITY;
-    for _ in 0..ROUNDS {
-        let start = Instant::now();
-        match name {
-            "lines" => (0..count).for_each(|_| {
-                black_box(black_box(&controller).lines());
-            }),
-            "mixed" => each(&steps, count, |step| {
-                black_box(controller.step(step, &mut room));
-                black_box(controller.lines());
-            }),
-            _ => each(&steps, count, |step| {
-                black_box(controller.step(step, &mut room));
-            }),
-        }
-        best = best.min(start.elapsed().as_secs_f64());
-        black_box(&room);
-    }
-    best * 1e9 / count as f64
+/// What is timed. Its calls are made of the steps beforehand, so that only the calling is timed.
+pub trait Timed {
+    type Call<'a>;
+    fn call<'a>(step: &Step<'a>) -> Self::Call<'a>;
+    fn run(&mut self, call: &Self::Call<'_>, room: &mut [u8]);
+    fn read_lines(&self);
 }
 
-fn each(steps: &[Step], count: usize, mut run: impl FnMut(&Step)) {
-    let mut next = steps.iter().cycle();
+impl Timed for Controller {
+    type Call<'a> = Step<'a>;
+
+    fn call<'a>(step: &Step<'a>) -> Step<'a> {
+        *step
+    }
+
+    fn run(&mut self, step: &Step, room: &mut [u8]) {
+        black_box(self.step(step, room));
+    }
+
+    fn read_lines(&self) {
+        black_box(self.lines());
+    }
+}
+
+/// Takes a controller through the set-up of a sequence.
+pub fn prepare<T: Timed>(timed: &mut T, name: &str) {
+    let script = set_up(name);
+    let mut frames = script.frames();
+    for step in script.steps(&mut frames) {
+        timed.run(&T::call(&step), &mut [0; CONTENTS]);
+    }
+}
+
+/// Time of one step in nanoseconds, over one round of so many. The state carries on.
+pub fn round<T: Timed>(timed: &mut T, name: &str, count: usize) -> f64 {
+    let script = cycle(name);
+    let mut frames = script.frames();
+    let calls: Vec<_> = script.steps(&mut frames).iter().map(T::call).collect();
+    let mut room = [0; CONTENTS];
+    let start = Instant::now();
+    match name {
+        "lines" => (0..count).for_each(|_| black_box(&*timed).read_lines()),
+        "mixed" => each(&calls, count, |call| {
+            timed.run(call, &mut room);
+            timed.read_lines();
+        }),
+        _ => each(&calls, count, |call| timed.run(call, &mut room)),
+    }
+    let time = start.elapsed().as_secs_f64();
+    black_box(&room);
+    time * 1e9 / count as f64
+}
+
+fn each<C>(calls: &[C], count: usize, mut run: impl FnMut(&C)) {
+    let mut next = calls.iter().cycle();
     for _ in 0..count {
         run(black_box(next.next().expect("a cycle has steps")));
     }
 }
 
+/// The model's best of some rounds.
 pub fn bench(count: usize, mut output: impl Write) -> io::Result<()> {
     for name in NAMES {
-        writeln!(output, "{name}\t{:.2} ns a step", time(name, count))?;
+        let mut model = Controller::new();
+        prepare(&mut model, name);
+        let best = (0..ROUNDS)
+            .map(|_| round(&mut model, name, count))
+            .fold(f64::INFINITY, f64::min);
+        writeln!(output, "{name}\t{best:.2} ns a step")?;
     }
     output.flush()
 }

@@ -2,6 +2,7 @@
 //!
 //! Sets of buffers are sixteen-bit masks, bit n for buffer n. Flags and interrupt lines that follow
 //! from other state (RCVFIF, RXIF, TXIF, LOCKIF, the vectors, the five lines) are worked out when read.
+//! Fields are public for the comparison with the product's record alone.
 
 /// The bits of each register, by the manual's names.
 pub mod bits {
@@ -107,9 +108,9 @@ use Answer::{Ignored, Refused};
 
 /// The locked buffers of one kind; a contender stands only behind a holder.
 #[derive(Clone, Copy, PartialEq, Eq, Debug)]
-struct Locks {
-    holder: u8,
-    contender: u8,
+pub struct Locks {
+    pub holder: u8,
+    pub contender: u8,
 }
 
 impl Locks {
@@ -143,49 +144,49 @@ impl Locks {
 
 #[derive(Clone, Copy, PartialEq, Eq, Debug)]
 pub struct Controller {
-    contents: [[u8; CONTENTS]; BUFFERS],
+    pub contents: [[u8; CONTENTS]; BUFFERS],
     /// The identifiers once more, side by side, so that all sixteen are compared at once.
-    identifiers: [u8; BUFFERS],
+    pub identifiers: [u8; BUFFERS],
     /// CFG 1.
-    transmit: u16,
+    pub transmit: u16,
     /// Dedicated receive: CFG 0 and not below FSIZ. Follows from the two; kept for speed.
-    receive: u16,
-    iena: u16,
+    pub receive: u16,
+    pub iena: u16,
     /// Never set for a FIFO buffer: kinds change only in initialization, where every IFLG is 0.
-    iflg: u16,
-    abtak: u16,
-    armed: u16,
+    pub iflg: u16,
+    pub abtak: u16,
+    pub armed: u16,
     /// Every buffer whose LOCK reads 1: the four of `Locks` and the FIFO window's holder.
-    locked: u16,
-    receive_locks: Locks,
-    transmit_locks: Locks,
-    fsiz: u8,
+    pub locked: u16,
+    pub receive_locks: Locks,
+    pub transmit_locks: Locks,
+    pub fsiz: u8,
     /// The oldest entry's place and the number of entries; the next place follows from both.
-    fifo_oldest: u8,
-    fifo_count: u8,
-    initialization: bool,
-    asleep: bool,
-    synchronized: bool,
+    pub fifo_oldest: u8,
+    pub fifo_count: u8,
+    pub initialization: bool,
+    pub asleep: bool,
+    pub synchronized: bool,
     /// A SYNLIF clear that waits for the next sync.
-    clear_remembered: bool,
-    last_identifier: u8,
+    pub clear_remembered: bool,
+    pub last_identifier: u8,
     /// The stored bits of $00: MASTER, ALARM, WPULSE, SSWAI.
-    control: u8,
+    pub control: u8,
     /// The event flags of $06 and $07: those that a written 1 clears.
-    events_06: u8,
-    events_07: u8,
-    enables_08: u8,
-    enables_09: u8,
-    timing: [u8; 3],
-    acceptance: Filter,
-    rejection: Filter,
-    bfen: u8,
+    pub events_06: u8,
+    pub events_07: u8,
+    pub enables_08: u8,
+    pub enables_09: u8,
+    pub timing: [u8; 3],
+    pub acceptance: Filter,
+    pub rejection: Filter,
+    pub bfen: u8,
 }
 
 #[derive(Clone, Copy, PartialEq, Eq, Debug)]
-struct Filter {
-    pattern: u8,
-    mask: u8,
+pub struct Filter {
+    pub pattern: u8,
+    pub mask: u8,
 }
 
 impl Filter {

@@ -1,5 +1,7 @@
 //! A plain model of document 01, to test and time the product against. It shares no code with it.
 //! Build: rustc --edition 2021 -O main.rs -o model
+//! Other programs of this folder: differential.rs and beside.rs, which link the product's static library to
+//! compare and to time it, and peak.rs, which measures memory.
 
 mod bench;
 mod controller;

@@ -7,10 +7,10 @@ use crate::text::put_step;
 use std::io::{self, Write};
 
 /// Xorshift with shifts 13, 7, 17.
-struct Random(u64);
+pub struct Random(u64);
 
 impl Random {
-    fn new(seed: u64) -> Random {
+    pub fn new(seed: u64) -> Random {
         let mut random = Random(seed.wrapping_mul(0x9E37_79B9_7F4A_7C15) | 1);
         for _ in 0..16 {
             random.next();
@@ -18,31 +18,31 @@ impl Random {
         random
     }
 
-    fn next(&mut self) -> u64 {
+    pub fn next(&mut self) -> u64 {
         self.0 ^= self.0 << 13;
         self.0 ^= self.0 >> 7;
         self.0 ^= self.0 << 17;
         self.0
     }
 
-    fn below(&mut self, n: usize) -> usize {
+    pub fn below(&mut self, n: usize) -> usize {
         ((self.next() >> 32) % n as u64) as usize
     }
 
-    fn byte(&mut self) -> u8 {
+    pub fn byte(&mut self) -> u8 {
         self.below(256) as u8
     }
 
-    fn one_in(&mut self, n: usize) -> bool {
+    pub fn one_in(&mut self, n: usize) -> bool {
         self.below(n) == 0
     }
 
-    fn of<T: Copy>(&mut self, choices: &[T]) -> T {
+    pub fn of<T: Copy>(&mut self, choices: &[T]) -> T {
         choices[self.below(choices.len())]
     }
 }
 
-#[derive(Clone, Copy, PartialEq)]
+#[derive(Clone, Copy, PartialEq, Debug)]
 pub enum Kind {
     Mixed,
     Wild,
@@ -466,22 +466,28 @@ impl Maker {
         self.read(0x07);
     }
 
-    /// Asleep for a few steps, then woken from the bus or by SLPRQ 0.
+    /// Asleep for a few steps, then woken from the bus, by SLPRQ 0 or by INITRQ.
     fn sleep(&mut self) {
         self.write(0x00, SLPRQ);
-        for _ in 0..self.random.below(4) {
-            match self.random.below(4) {
+        for _ in 0..self.random.below(5) {
+            match self.random.below(6) {
                 0 => self.read(0x00),
                 1 => self.read(0x06),
                 2 => self.put(Step::SyncDue),
-                _ => self.put(Step::Slot(1)),
+                3 => self.put(Step::Timeout),
+                4 => self.put(Step::Slot(1)),
+                _ => {
+                    let (address, value) = (1 + self.random.byte() % 0x5F, self.random.byte());
+                    self.write(address, value);
+                }
             }
         }
-        match self.random.below(5) {
+        match self.random.below(6) {
             0 => self.write(0x00, 0),
             1 => self.frame(),
             2 => self.put(Step::Fault(Fault::Early)),
             3 => self.put(Step::Fault(Fault::Lost)),
+            4 => self.interrupted(),
             _ => self.put(Step::Sync(Pulse::Normal)),
         }
         self.read(0x07);
@@ -509,7 +515,7 @@ impl Maker {
     fn wild(&mut self) {
         match self.random.below(800) {
             0 => return self.put(Step::Reset),
-            1..=3 => return self.wild_layout(),
+            1..=6 => return self.wild_layout(),
             _ => {}
         }
         match self.random.below(10) {

@@ -4,7 +4,7 @@ mod bench;
 mod bounds;
 mod examples;
 mod locking;
-mod refusals;
+mod refused;
 mod sleeping;
 mod slips;
 mod words;
@@ -12,7 +12,7 @@ mod words;
 fn main() {
     examples::worked_example();
     slips::all();
-    refusals::all();
+    refused::all();
     words::all();
     bounds::all();
     locking::all();

@@ -30,8 +30,8 @@ use Rattle.rules.specs.Refusals.{refuses1, refuses11, refuses12, firstOf, readR
 use Rattle.rules.specs.Bus.{lookup, offers, judged, received, slotFor, slotted, synced, dueSync, timedOut, faulted}
 use Rattle.rules.specs.Rules.{wakes, sleepsOn, act, decide}
 use Rattle.rules.specs.Hidden.{decide-hide}
-use Rattle.rules.specs.Code.{rulingOf, isReady, syncedOf, dueOf}
-use Rattle.rules.specs.CodeLaws.{Simple, says, stores, sends, synced-ready, due-ready, frame-simple, slot-simple, wakes-simple, sleeps-simple, due-simple}
+use Rattle.bus_steps.specs.Code.{rulingOf, isReady, syncedOf, dueOf}
+use Rattle.bus_steps.specs.CodeLaws.{Simple, says, stores, sends, synced-ready, due-ready, frame-simple, slot-simple, wakes-simple, sleeps-simple, due-simple}
 use Rattle.controller.specs.declared.Controller.{Controller}
 use Rattle.controller.specs.declared.Done.{Done}
 use Rattle.controller.specs.declared.Change.{Change}

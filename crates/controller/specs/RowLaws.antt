@@ -15,7 +15,7 @@ use Rattle.rules.specs.declared.Control.{Control}
 use Rattle.rules.specs.Kinds.{isReceive, isFullTransmit}
 use Rattle.rules.specs.Plan.{headAt}
 use Rattle.rules.specs.Bus.{receives, lookup, offers}
-use Rattle.rules.specs.Code.{isNamed, isReady}
+use Rattle.bus_steps.specs.Code.{isNamed, isReady}
 use Rattle.controller.specs.Carry.{heads, rowAt}
 use Rattle.controller.specs.View.{head-at}
 

@@ -7,7 +7,7 @@ ghost use Rattle.contents.specs.Bytes.{storeFrame};
 ghost use Rattle.rules.specs.Refusals.{refuses11};
 ghost use Rattle.rules.specs.Bus.{lookup, offers};
 ghost use Rattle.masks.specs.Bits.{highest, maskOf};
-ghost use Rattle.rules.specs.Code.{isReady};
+ghost use Rattle.bus_steps.specs.Code.{isReady};
 ghost use Rattle.rules.specs.Flags.{linesOf};
 ghost use Rattle.rules.specs.Steps.Step.{sync, syncDue, slot, frame, fault, timeout};
 ghost use Rattle.controller.specs.Carry.{heads};
@@ -61,7 +61,7 @@ impl Controller {
         ensures { λ r. ⌜ r ≡ linesOf (self .control) ⌝ }
     {
         let c = self.control;
-        c.lines()
+        status::flags::lines(c)
     }
 
     // The lowest dedicated receive buffer with identifier i, 16 for none.
@@ -70,7 +70,7 @@ impl Controller {
     {
         let c = self.control;
         let r = self.rows;
-        rows::lowest_with(r, c.receivers(), i)
+        rows::lowest_with(r, status::kinds::receivers(c), i)
     }
 
     // The highest armed buffer with identifier i, 16 for none.
@@ -87,7 +87,7 @@ impl Controller {
         ensures { λ r. ⌜ r ≡ maskOf (isReady (self .control) (heads (self .rows))) ⌝ }
     {
         let c = self.control;
-        let full = c.full();
+        let full = status::kinds::full(c);
         if full == 0 {
             return 0;
         }
@@ -152,7 +152,7 @@ impl Controller {
         ensures { λ x. ⌜ changed self x ≡ doneOf (stepOf self (sync k)) ⌝ }
     {
         let c = self.control;
-        self.ruled(c.on_sync(k, self.named()), b"")
+        self.ruled(bus_steps::on_sync(c, k, self.named()), b"")
     }
 
     // A sync due.
@@ -160,7 +160,7 @@ impl Controller {
         ensures { λ x. ⌜ changed self x ≡ doneOf (stepOf self syncDue) ⌝ }
     {
         let c = self.control;
-        self.ruled(c.on_due(self.named()), b"")
+        self.ruled(bus_steps::on_due(c, self.named()), b"")
     }
 
     // A frame: its verdict and its bytes.
@@ -172,7 +172,7 @@ impl Controller {
             return with_answer(c, Answer::Refused(11));
         }
         let i = f[0];
-        self.ruled(c.on_frame(good, i, self.lookup(i)), f)
+        self.ruled(bus_steps::on_frame(c, good, i, self.lookup(i)), f)
     }
 
     // A fault of the bus.
@@ -180,7 +180,7 @@ impl Controller {
         ensures { λ x. ⌜ changed self x ≡ doneOf (stepOf self (fault k)) ⌝ }
     {
         let c = self.control;
-        self.ruled(c.on_fault(k), b"")
+        self.ruled(bus_steps::on_fault(c, k), b"")
     }
 
     // The alarm timeout.
@@ -188,7 +188,7 @@ impl Controller {
         ensures { λ x. ⌜ changed self x ≡ doneOf (stepOf self timeout) ⌝ }
     {
         let c = self.control;
-        self.ruled(c.on_timeout(), b"")
+        self.ruled(bus_steps::on_timeout(c), b"")
     }
 
     // Slot i.
@@ -200,7 +200,7 @@ impl Controller {
         if room.len() < 14 {
             return with_answer(c, Answer::Refused(12));
         }
-        let r = c.on_slot(i, self.offering(i));
+        let r = bus_steps::on_slot(c, i, self.offering(i));
         let verdict = r.verdict;
         self.fill(verdict, room);
         self.ruled(r, b"")

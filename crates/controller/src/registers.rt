@@ -137,8 +137,8 @@ impl Controller {
         match register {
             Register::TransmitWindow(p) => self.window(c.transmit.holder, p),
             Register::ReceiveWindow(p) => self.window(c.receive.holder, p),
-            Register::FifoWindow(p) => self.window(c.fifo_holder(), p),
-            _ => c.value_of(register),
+            Register::FifoWindow(p) => self.window(status::kinds::fifo_holder(c), p),
+            _ => status::reads::value_of(c, register),
         }
     }
 
@@ -147,11 +147,11 @@ impl Controller {
         ensures { λ x. ⌜ changed self x ≡ doneOf (stepOf self (read a)) ⌝ }
     {
         let c = self.control;
-        let k = c.read_refusal(a);
+        let k = refusals::read_refusal(c, a);
         if k != 0 {
             return with_answer(c, Answer::Refused(k));
         }
-        let v = self.register_value(rules::reads::register_at(a));
+        let v = self.register_value(status::reads::register_at(a));
         with_answer(c, Answer::Value(v))
     }
 
@@ -182,12 +182,12 @@ impl Controller {
         ensures { λ x. ⌜ changed self x ≡ doneOf (stepOf self (write a v)) ⌝ }
     {
         let c = self.control;
-        let k = c.write_refusal(a, v);
+        let k = refusals::write_refusal(c, a, v);
         if k != 0 {
             return with_answer(c, Answer::Refused(k));
         }
-        let register = rules::reads::register_at(a);
-        self.write_rows(c.written(register, v), register, v)
+        let register = status::reads::register_at(a);
+        self.write_rows(writes::written(c, register, v), register, v)
     }
 
     // A register read. It changes nothing.

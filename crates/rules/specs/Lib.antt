@@ -14,6 +14,4 @@ pub mod Rules
 pub mod Hidden
 pub mod Unchanged
 pub mod Untouched
-pub mod Code
-pub mod CodeLaws
 pub mod Sending

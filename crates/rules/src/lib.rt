@@ -1,12 +1,5 @@
 // The controller's control state, by concern: everything but the buffers' bytes.
 pub mod bits;
-mod bus;
-pub mod flags;
-pub mod kinds;
-mod modes;
-pub mod reads;
-mod refusals;
-pub mod writes;
 
 use filter::Filter;
 use locks::Locks;

@@ -1,0 +1,33 @@
+use mathlib.Core.Path.{_∙_}
+use mathlib.Core.Logic.{⊎-elim}
+use borrow.Author.Tests.{lt-ltb, le-ltb}
+use Rattle.masks.specs.Search.{never-both}
+use Rattle.rules.specs.Bus.{fifoTakes}
+use borrow.Author.Needs.{needs}
+use Rattle.bus_steps.proofs.frames.fifo_takes.Statement.{statement}
+use Rattle.bus_steps.proofs.frames.fifo_takes.Tie as tie
+
+matches-requires : tie.Need-matches-requires
+matches-requires c κs = search needs
+
+matches-requires-2 : tie.Need-matches-requires-2
+matches-requires-2 c κs = search needs
+
+returns : tie.Need-returns
+unfolding fifoTakes
+returns c =
+    ⊎-elim
+    (λ w. simp (lt-ltb _ _ (w .0 .taken), ← (w .1 .ensures), ← (w .2), c .before .if2 .taken, ← (c .matches2 .ensures)))
+    (λ w. absurd (never-both _ (c .before .if2 .taken) (w .1 ∙ le-ltb _ _ (w .0 .left))))
+    (c .before .before .if1 .came)
+
+returns-2 : tie.Need-returns-2
+unfolding fifoTakes
+returns-2 c =
+    ⊎-elim
+    (λ w. simp (lt-ltb _ _ (w .0 .taken), ← (w .1 .ensures), ← (w .2), c .if2 .left))
+    (λ w. simp (le-ltb _ _ (w .0 .left), c .if2 .left))
+    (c .before .if1 .came)
+
+pub fifo-takes-spec : {M : Type 1} → statement M
+fifo-takes-spec = tie.close (tie.spec matches-requires matches-requires-2 returns returns-2)

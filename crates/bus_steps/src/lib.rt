@@ -1,0 +1,114 @@
+// Bus steps on the control state.
+mod events;
+mod frames;
+mod slots;
+mod syncs;
+
+ghost use mathlib.Core.Path.{_≡_};
+ghost use Rattle.rules.specs.Plan.{plain};
+ghost use Rattle.rules.specs.Bus.{timedOut, faulted, judged, slotFor};
+ghost use Rattle.rules.specs.Rules.{wakes, sleepsOn};
+ghost use Rattle.bus_steps.specs.Code.{rulingOf, syncedOf, dueOf};
+ghost use Rattle.rules.specs.declared.Answer.the-variants.{Ok};
+use crate::events::faulted;
+use crate::events::woken;
+use crate::frames::judged;
+use crate::slots::slot_for;
+use crate::syncs::due_kind;
+use crate::syncs::synced;
+use crate::syncs::timed_out;
+use rules::Answer;
+use rules::Control;
+use rules::Fault;
+use rules::Ruling;
+use rules::SyncKind;
+use rules::Verdict;
+
+// An answer alone.
+pub(crate) fn ruling(next: Control, answer: Answer) -> Ruling
+    ensures { λ r. ⌜ r ≡ rulingOf (plain next answer) ⌝ }
+{
+    Ruling {
+        next: next,
+        verdict: Verdict::Say(answer),
+    }
+}
+
+// A frame with identifier i, whose buffer is n.
+pub fn on_frame(c: Control, good: bool, i: u8, n: u8) -> Ruling
+    ensures { λ r. ⌜ r ≡ rulingOf (wakes c (judged c good i n)) ⌝ }
+{
+    if c.mode.init {
+        return ruling(c, Answer::Ignored);
+    }
+    if c.mode.slpak {
+        return ruling(woken(c), Answer::Woke);
+    }
+    judged(c, good, i, n)
+}
+
+pub fn on_slot(c: Control, i: u8, n: u8) -> Ruling
+    ensures { λ r. ⌜ r ≡ rulingOf (sleepsOn c (slotFor c i n)) ⌝ }
+{
+    if c.mode.init {
+        return ruling(c, Answer::Ignored);
+    }
+    if c.mode.slpak {
+        return ruling(c, Answer::Ignored);
+    }
+    slot_for(c, i, n)
+}
+
+// A sync, m being the full transmit buffers with an identifier.
+pub fn on_sync(c: Control, k: SyncKind, m: u16) -> Ruling
+    ensures { λ r. ⌜ r ≡ rulingOf (wakes c (plain (syncedOf k c m) Ok)) ⌝ }
+{
+    if c.mode.init {
+        return ruling(c, Answer::Ignored);
+    }
+    if c.mode.slpak {
+        return ruling(woken(c), Answer::Woke);
+    }
+    ruling(synced(c, k, m), Answer::Ok)
+}
+
+// A sync due.
+pub fn on_due(c: Control, m: u16) -> Ruling
+    ensures { λ r. ⌜ r ≡ rulingOf (sleepsOn c (dueOf c m)) ⌝ }
+{
+    if c.mode.init {
+        return ruling(c, Answer::Ignored);
+    }
+    if c.mode.slpak {
+        return ruling(c, Answer::Ignored);
+    }
+    if !c.mode.master {
+        return ruling(c, Answer::Ignored);
+    }
+    let k = due_kind(c);
+    ruling(synced(c, k, m), Answer::Pulse(k))
+}
+
+pub fn on_fault(c: Control, k: Fault) -> Ruling
+    ensures { λ r. ⌜ r ≡ rulingOf (wakes c (plain (faulted k c) Ok)) ⌝ }
+{
+    if c.mode.init {
+        return ruling(c, Answer::Ignored);
+    }
+    if c.mode.slpak {
+        return ruling(woken(c), Answer::Woke);
+    }
+    ruling(faulted(c, k), Answer::Ok)
+}
+
+pub fn on_timeout(c: Control) -> Ruling
+    ensures { λ r. ⌜ r ≡ rulingOf (sleepsOn c (plain (timedOut c) Ok)) ⌝ }
+{
+    if c.mode.init {
+        return ruling(c, Answer::Ignored);
+    }
+    if c.mode.slpak {
+        return ruling(c, Answer::Ignored);
+    }
+    ruling(timed_out(c), Answer::Ok)
+}

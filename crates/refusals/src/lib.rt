@@ -1,0 +1,195 @@
+// The refusals of register calls: each as a test, and the lowest number that applies.
+ghost use mathlib.Core.Path.{_≡_};
+ghost use Rattle.masks.specs.Bits.{someOf};
+ghost use Rattle.rules.specs.Registers.{between};
+ghost use Rattle.rules.specs.Refusals.{refuses2, refuses3, onlyInInit, refuses4, refuses5, refuses6, movedByFsiz, movedByCfg, refuses7, refuses8, newLock, notOldest, refuses9, noLockLeft, refuses10, readRefusal, writeRefusal, lateRefusal};
+use rules::Control;
+use rules::bits::INITRQ;
+use rules::bits::LOCK;
+use status::kinds::cfg_after;
+use status::kinds::is_lawful;
+use status::kinds::is_locked;
+use status::kinds::is_oldest;
+use status::kinds::is_transmit;
+use status::kinds::locked_mask;
+
+fn between(low: u8, a: u8, high: u8) -> bool
+    ensures { λ r. ⌜ r ≡ between low a high ⌝ }
+{
+    low <= a && a <= high
+}
+
+// 3: a register that only reads.
+fn refuses3(a: u8) -> bool
+    ensures { λ r. ⌜ r ≡ refuses3 a ⌝ }
+{
+    a == 0x0A || a == 0x0B || a == 0x0E || a == 0x12 || between(0x40, a, 0x4D)
+}
+
+fn only_in_init(a: u8) -> bool
+    ensures { λ r. ⌜ r ≡ onlyInInit a ⌝ }
+{
+    between(0x01, a, 0x04)
+        || a == 0x0C
+        || a == 0x0D
+        || a == 0x14
+        || a == 0x15
+        || between(0x30, a, 0x3D)
+}
+
+// 6: FSIZ above 16.
+fn refuses6(a: u8, v: u8) -> bool
+    ensures { λ r. ⌜ r ≡ refuses6 a v ⌝ }
+{
+    a == 0x01 && 16 < v % 32
+}
+
+// 2: asleep, any register but $00.
+fn refuses2(c: Control, a: u8) -> bool
+    ensures { λ r. ⌜ r ≡ refuses2 c a ⌝ }
+{
+    c.mode.slpak && a != 0
+}
+
+// 4: a register that is written in initialization only.
+fn refuses4(c: Control, a: u8) -> bool
+    ensures { λ r. ⌜ r ≡ refuses4 c a ⌝ }
+{
+    only_in_init(a) && !c.mode.init
+}
+
+// 5: a window with no holder.
+fn refuses5(c: Control, a: u8) -> bool
+    ensures { λ r. ⌜ r ≡ refuses5 c a ⌝ }
+{
+    let tx = c.transmit;
+    let rx = c.receive;
+    between(0x20, a, 0x2D) && !tx.has_holder() || between(0x30, a, 0x3D) && !rx.has_holder()
+}
+
+// A locked buffer changes its kind where FSIZ becomes s.
+fn moved_by_fsiz(c: Control, s: u8) -> bool
+    ensures { λ r. ⌜ r ≡ someOf (movedByFsiz c s) 16 ⌝ }
+{
+    let now = masks::below(c.config.fsiz);
+    let then = masks::below(s);
+    masks::any(locked_mask(c) & !c.buffers.cfg & (now & !then | then & !now))
+}
+
+// Locked buffer n changes its kind by CFG.
+fn moved_by_cfg(c: Control, n: u8, v: u8) -> bool
+    ensures { λ r. ⌜ r ≡ movedByCfg c n v ⌝ }
+{
+    is_locked(c, n) && cfg_after(c, n, v) != is_transmit(c, n)
+}
+
+// 7: the kind of a locked buffer changes.
+fn refuses7(c: Control, a: u8, v: u8) -> bool
+    ensures { λ r. ⌜ r ≡ refuses7 c a v ⌝ }
+{
+    a == 0x01 && moved_by_fsiz(c, v % 32) || 0x50 <= a && moved_by_cfg(c, a - 0x50, v)
+}
+
+// 8: leaving initialization with an unlawful layout.
+fn refuses8(c: Control, a: u8, v: u8) -> bool
+    ensures { λ r. ⌜ r ≡ refuses8 c a v ⌝ }
+{
+    a == 0x00 && c.mode.init && v / INITRQ % 2 != 1 && !is_lawful(c)
+}
+
+fn new_lock(c: Control, n: u8, v: u8) -> bool
+    ensures { λ r. ⌜ r ≡ newLock c n v ⌝ }
+{
+    v / LOCK % 2 == 1 && !is_locked(c, n)
+}
+
+fn not_oldest(c: Control, n: u8, v: u8) -> bool
+    ensures { λ r. ⌜ r ≡ notOldest c n v ⌝ }
+{
+    new_lock(c, n, v) && !cfg_after(c, n, v) && n < c.config.fsiz && !is_oldest(c, n)
+}
+
+// 9: a new lock on a FIFO buffer that isn't the oldest entry.
+fn refuses9(c: Control, a: u8, v: u8) -> bool
+    ensures { λ r. ⌜ r ≡ refuses9 c a v ⌝ }
+{
+    0x50 <= a && not_oldest(c, a - 0x50, v)
+}
+
+fn no_lock_left(c: Control, n: u8, v: u8) -> bool
+    ensures { λ r. ⌜ r ≡ noLockLeft c n v ⌝ }
+{
+    if !new_lock(c, n, v) {
+        return false;
+    }
+    if cfg_after(c, n, v) {
+        let tx = c.transmit;
+        return tx.is_full();
+    }
+    let rx = c.receive;
+    c.config.fsiz <= n && rx.is_full()
+}
+
+// 10: a new lock where the kind has holder and contender.
+fn refuses10(c: Control, a: u8, v: u8) -> bool
+    ensures { λ r. ⌜ r ≡ refuses10 c a v ⌝ }
+{
+    0x50 <= a && no_lock_left(c, a - 0x50, v)
+}
+
+// The refusal of a register read, 0 for none.
+pub fn read_refusal(c: Control, a: u8) -> u8
+    ensures { λ r. ⌜ r ≡ readRefusal c a ⌝ }
+{
+    if 0x5F < a {
+        return 1;
+    }
+    if refuses2(c, a) {
+        return 2;
+    }
+    0
+}
+
+// Refusals 6 to 10 of a write, 0 for none.
+fn late_refusal(c: Control, a: u8, v: u8) -> u8
+    ensures { λ r. ⌜ r ≡ lateRefusal c a v ⌝ }
+{
+    if refuses6(a, v) {
+        return 6;
+    }
+    if refuses7(c, a, v) {
+        return 7;
+    }
+    if refuses8(c, a, v) {
+        return 8;
+    }
+    if refuses9(c, a, v) {
+        return 9;
+    }
+    if refuses10(c, a, v) {
+        return 10;
+    }
+    0
+}
+
+// The refusal of a register write, 0 for none.
+pub fn write_refusal(c: Control, a: u8, v: u8) -> u8
+    ensures { λ r. ⌜ r ≡ writeRefusal c a v ⌝ }
+{
+    if 0x5F < a {
+        return 1;
+    }
+    if refuses2(c, a) {
+        return 2;
+    }
+    if refuses3(a) {
+        return 3;
+    }
+    if refuses4(c, a) {
+        return 4;
+    }
+    if refuses5(c, a) {
+        return 5;
+    }
+    late_refusal(c, a, v)
+}
