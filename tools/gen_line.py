@@ -3,7 +3,6 @@
 import os,sys
 sys.path.insert(0,os.path.dirname(os.path.abspath(__file__)))
 from walk import *
-Hel=Decl("Held","Held-row","struct","pieces",False)
 Tal=Decl("Tally","Tally-row","struct",crate,True)
 Cal=Decl("Call","Call-row","enum","controller",False)
 Fra=Decl("FrameBytes","Frame-row","struct","controller",False)
@@ -66,7 +65,7 @@ w.emit("lft-new ! tt (λ ν′. "); w.give(0,["ν′"]); w.to(["room","t-room"])
 w.emit(f"use2 W (later (some (λ (δ′ : GName). ‵ ({RoomI('(ν′ ∷ [])','δ′','room','(length room)')}) ⊛ ‵ (Sl.LentAgain u8 κ-room (ν′ ∷ []) q-room γ-room b-room o-room δ′ room)))) (Sl.lends-again u8 κ-room (ν′ ∷ []) q-room γ-room b-room o-room 𝓤 H A W (named 1) (named 1) room) $ await ! tt $ pick ! (λ δ′. split ! $\n"); w.give(2,["room′","kept′"])
 w.to(["ν","ν′","rec′","room′"])
 w.emit("group ! 4 $ use1 W (raw (Step 𝓤 H A at-mem run .pre (to ν ν′ δ δ′))) (asked ν ν′ δ δ′) $\n"); w.give(4,["pre"])
-w.emit(f"calls-at ! fm (Step 𝓤 H A at-mem run) known (to ν ν′ δ δ′) {w.ops([w.load(9),w.part(6,7),w.part(6,8),w.load(11)])} (λ v.\n")
+w.emit(f"calls-at ! fm (Step 𝓤 H A at-mem run) known (to ν ν′ δ δ′) {w.ops([w.load(9),w.part(6,6),w.part(6,7),w.load(11)])} (λ v.\n")
 KS="(ν ∷ [], (ν′ ∷ [], tt))"; AR="(args ν ν′ δ δ′)"
 w.emit(f"use1 W (later (some (λ (x : Answer). ((‵ (flft (ν ∷ []) fullShare) ⊛ ‵ (flft (ν′ ∷ []) fullShare) ⊛ ‵ ftrue) ⊛ ‵ ({Ans.row()} .own x (v ∷ []))) ⊛ raw (ensured 𝓤 H A step.ended (step.clauses 𝓤 H A at-mem run) {KS} {AR} tt x)))) (id⊢ 𝓤 _) $ await ! tt $ pick ! (λ x.\n")
 SA="Said (ws .0) x (ws .1 .1 .1 .0)"
@@ -216,7 +215,6 @@ use Rattle.controller.specs.Code.{{doneOf, stepFor, roomFor, bytesIn}}
 use {spec}.Turn.{{Answers, Steps}}
 use {spec}.TurnLaws.{{steps}}
 {chr(10).join(d.uses() for d in (Con,Tur))}
-use Rattle.pieces.proofs.Held.Laws as Held-row′
 use {modp}.Tally.Laws as Tally-row′
 {chr(10).join(d.uses() for d in (Cal,Fra,Ans))}
 use {modp}.Again as Sl
@@ -307,10 +305,10 @@ module _ {G} (W : Given 𝓤 H A) {AM} ({" ".join(kap(n) for n in REFS)} : Lft) 
 
   -- what whoever holds the turn knows of its step
   call-is : {Cal.is_("t .call")}
-  call-is = LL.owed U.the-type U′.the-laws t _ t-is{path(7)}
+  call-is = LL.owed U.the-type U′.the-laws t _ t-is{path(6)}
 
   frame-is : {Fra.is_("t .frame")}
-  frame-is = LL.owed U.the-type U′.the-laws t _ t-is{path(8)}
+  frame-is = LL.owed U.the-type U′.the-laws t _ t-is{path(7)}
 
   now-room : (zs : List ℕ) → length zs ≡ length room → Room u8 (length zs)
   now-room zs l = subst (Room u8) (sym l) room-room

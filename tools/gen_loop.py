@@ -43,7 +43,7 @@ asked=w.text()
 # ---- the turn that leaves
 w=Walk(8); w.ctx=held+CELLS+DIES
 def test(w,how):
-    w.assign(f"(of-opd ! {w.part(7,6)})",8,"(tt, tt)")
+    w.assign(f"(of-opd ! {w.part(7,5)})",8,"(tt, tt)")
     w.emit(f"rewrite ! {w.cell(8)} (λ (y : Bool). ‵ (fat fullShare tyBool l8 0 (vbool y))) d refl $ {how} ! {w.load(8)} $ ")
 test(w,"leaves-loop"); w.emit("exec ! C Λ En pieces.t-3 (atRet En Post) $\n")
 w.copy(7,0,Tur.typed("s .t","s .t-is"))
@@ -161,7 +161,6 @@ use {spec}.Turn.{{left, Steps, Played}}
 use {spec}.TurnLaws.{{steps-nearer, played-none, played-more, played-all}}
 {Con.uses(False)}
 {Tur.uses()}
-use Rattle.pieces.proofs.Held.Laws as Held-row′
 use {modp}.Tally.Laws as Tally-row′
 use Rattle.controller.proofs.Call.Laws as Call-row′
 use Rattle.controller.proofs.FrameBytes.Laws as Frame-row′

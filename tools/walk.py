@@ -94,7 +94,7 @@ word = tyInt w64
 abbrev rec-ty : Ty
 rec-ty = pointee (T.the-row .written)"""
 TURN_TYPE="""abbrev turn-ty : Ty
-turn-ty = tyStruct (U.struct .name) (tcons Held-row′.mir (tcons (tyInt w32) (tcons Tally-row′.mir (tcons byte (tcons word (tcons word (tcons tyBool (tcons Call-row′.mir (tcons Frame-row′.mir tnil)))))))))"""
+turn-ty = tyStruct (U.struct .name) (tcons (tyInt w32) (tcons Tally-row′.mir (tcons byte (tcons word (tcons word (tcons tyBool (tcons Call-row′.mir (tcons Frame-row′.mir tnil))))))))"""
 TURN_IS=f"""turn-is : (r : Turn) (vs : List Val) → Is U.the-row r vs → {Tur.is_("r")}
 turn-is r vs g = LL.owes U.the-type U′.the-laws r (LL.owed U.the-type U′.the-laws r vs g)"""
 REFERENCES=f"""  -- the references, under a name and at a value

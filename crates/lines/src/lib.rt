@@ -42,11 +42,12 @@ fn nibble(b: u8) -> u16
 fn byte(high: u8, low: u8) -> u16
     ensures { λ r. ⌜ r ≡ byteOf high low ⌝ }
 {
+    // each is tested at once: both tested at the end take more instructions
     let h = nibble(high);
-    let l = nibble(low);
     if 15 < h {
         return 256;
     }
+    let l = nibble(low);
     if 15 < l {
         return 256;
     }

@@ -43,7 +43,7 @@ module _ {S : Type 0} (act : S → ℕ → List ℕ → S) (show : S → ℕ →
   endLine f =
       record {
         state = pick (isRead (f .number)) (act (f .state) (f .number) (lineIn (f .held))) (f .state);
-        held = record { bytes = f .held .bytes; len = 0 };
+        held = noneHeld;
         number = numberAfter (f .number);
       }
 

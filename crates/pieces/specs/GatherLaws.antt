@@ -7,7 +7,7 @@ use mathlib.Core.Bool.{Bool, true, false}
 use borrow.Author.Tests.{lt-ltb, le-ltb, eqb-true, eq-eqb, ne-eqb}
 use lib.ListN.{length, take, set, getD}
 use lib.Dec.{eqb}
-use Rattle.masks.specs.Pick.{pick, pick-true, pick-false, pick-keeps}
+use Rattle.masks.specs.Pick.{pick, pick-true, pick-false, pick-keeps, by-test}
 use Rattle.pieces.specs.declared.Held.{Held}
 use Rattle.pieces.specs.declared.Gathered.{Gathered}
 use Rattle.pieces.specs.Feed.{Feed, pushOf, lineIn, isRead, endLine, byteS, byteO, endOf, outOf}
@@ -45,6 +45,14 @@ from-byte h t i stop l e =
     let z : stop - i ≡ suc (stop - (i + 1)) = omega arith in
     ap (gatherFrom h t i) z ∙ pick-false _ _ _ (ne-eqb (getD t i 0) 10 e)
 
+-- where it stops goes by the LFs alone
+pub at-any : (k : ℕ) (h h′ : Held) (t : List ℕ) (i : ℕ) → gatherFrom h t i k .at ≡ gatherFrom h′ t i k .at
+unfolding gatherFrom
+at-any zero h h′ t i = refl
+at-any (suc k) h h′ t i =
+    by-test (eqb (getD t i 0) 10) (λ q. simp (pick-true, q))
+    (λ q. simp (pick-false, q) (at-any k (pushOf h (getD t i 0)) (pushOf h′ (getD t i 0)) t (i + 1)))
+
 -- ---- where gathering stops: at an LF before index stop, or there
 
 pub record Stops (t : List ℕ) (from stop : ℕ) (g : Gathered) : Type 0 where
@@ -54,7 +62,7 @@ pub record Stops (t : List ℕ) (from stop : ℕ) (g : Gathered) : Type 0 where
   pub lf : g .ended ≡ true → getD t (g .at) 0 ≡ 10
   pub all : g .ended ≡ false → g .at ≡ stop
 
-stops-from : (k : ℕ) (h : Held) (t : List ℕ) (i : ℕ) → Stops t i (i + k) (gatherFrom h t i k)
+pub stops-from : (k : ℕ) (h : Held) (t : List ℕ) (i : ℕ) → Stops t i (i + k) (gatherFrom h t i k)
 unfolding gatherFrom
 stops-from zero h t i = record {
   low = omega arith;

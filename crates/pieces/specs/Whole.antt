@@ -2,20 +2,20 @@
 -- 64 bytes for the same.
 use Prim.Native.Nat.{ℕ, zero, suc, _+_, _≤_, _<_}
 use native.Mathlib.Omega.{arith}
-use native.Mathlib.Numerals.{add-one}
 use mathlib.Core.Path.{_≡_, refl, sym, ap, _∙_}
-use mathlib.Core.Logic.{_⊎_, inl, inr, ⊎-elim}
+use mathlib.Core.Logic.{_⊎_, ⊎-elim}
 use mathlib.Core.List.{List, [], _∷_, _++_, append-assoc, append-nil}
 use mathlib.Core.Bool.{Bool, true, false}
-use borrow.Author.Tests.{lt-ltb, le-ltb, le-leb, lt-leb, eq-eqb, ne-eqb, ltb-true, ltb-false}
-use lib.ListN.{length, take, set, replicate, length-append, length-set}
-use lib.Seq.{take-suc-set, take-nil}
+use borrow.Author.Tests.{lt-ltb, le-leb, lt-leb, eq-eqb, ne-eqb}
+use lib.ListN.{length, take}
+use lib.Seq.{take-nil}
 use lib.Dec.{ltb, eqb}
 use Rattle.masks.specs.Pick.{pick-true, pick-false, pick-keeps, by-test}
 use Rattle.pieces.specs.declared.Held.{Held}
 use Rattle.pieces.specs.Lines.{Line, restOf, linesFrom, linesOf}
 use Rattle.pieces.specs.Feed.{Feed, noneHeld, pushOf, lineIn, numberAfter, isRead, endLine, byteS, byteO, endOf, outOf, lastOf, runFrom, wholeOf}
 use Rattle.pieces.specs.FeedLaws.{endOf-append, outOf-append}
+use Rattle.pieces.specs.Holds.{Short, Long, Holds, held-same, push-holds, none-holds}
 
 -- ---- a text in pieces
 
@@ -26,63 +26,6 @@ joined (c ∷ cs) = c ++ joined cs
 -- nothing fed yet
 abbrev pub fresh : {S : Type 0} → S → Feed S
 fresh s = record { state = s; held = noneHeld; number = 1 }
-
--- ---- the beginning p of a line is held
-
-record Short (h : Held) (p : List ℕ) : Type 0 where
-  len : h .len ≡ length p
-  text : take (h .len) (h .bytes) ≡ p
-  low : length p ≤ 64
-
-record Long (h : Held) (p : List ℕ) : Type 0 where
-  len : 64 < h .len
-  high : 64 < length p
-
-record Holds (h : Held) (p : List ℕ) : Type 0 where
-  room : length (h .bytes) ≡ 64
-  kind : Short h p ⊎ Long h p
-
-line-short : (h : Held) (p : List ℕ) → Short h p → lineIn h ≡ p
-unfolding lineIn
-line-short h p w = let k : h .len ≤ 64 = omega (arith, w .len, w .low) in pick-false _ _ _ (le-ltb 64 (h .len) k) ∙ w .text
-
-line-long : (h : Held) (p : List ℕ) → Long h p → 64 < length (lineIn h)
-unfolding lineIn
-line-long h p w = rw (pick-true _ (replicate 65 0) (take (h .len) (h .bytes)) (lt-ltb 64 (h .len) (w .len))) (omega arith)
-
--- a byte more
-push-holds : (h : Held) (p : List ℕ) (b : ℕ) → Holds h p → Holds (pushOf h b) (p ++ (b ∷ []))
-unfolding pushOf
-push-holds h p b w =
-    let room : length (h .bytes) ≡ 64 = w .room in
-    pick-keeps (λ (x : Held). Holds x (p ++ (b ∷ []))) (ltb (h .len) 64)
-    (λ e.
-    let k : h .len < 64 = ltb-true (h .len) 64 e in
-    let i : h .len < length (h .bytes) = omega arith in
-    record {
-      room = length-set (h .bytes) (h .len) b ∙ room;
-      kind =
-          ⊎-elim
-          (λ (u : Short h p). inl (record {
-            len = ap (λ (n : ℕ). n + 1) (u .len) ∙ sym (length-append p (b ∷ []));
-            text = ap (λ (n : ℕ). take n (set (h .bytes) (h .len) b)) (add-one (h .len)) ∙ take-suc-set (h .bytes) (h .len) b i ∙ ap (λ (l : List ℕ). l ++ (b ∷ [])) (u .text);
-            low = omega (arith, length-append p (b ∷ []), u .len);
-          }))
-          (λ (u : Long h p). absurd (omega (arith, u .len)))
-          (w .kind);
-    })
-    (λ e.
-    let k : 64 ≤ h .len = ltb-false (h .len) 64 e in
-    record {
-      room = room;
-      kind = inr (record {
-        len = omega arith;
-        high = ⊎-elim (λ (u : Short h p). omega (arith, length-append p (b ∷ []), u .len)) (λ (u : Long h p). omega (arith, length-append p (b ∷ []), u .high)) (w .kind);
-      });
-    })
-
-none-holds : (h : Held) → length (h .bytes) ≡ 64 → h .len ≡ 0 → Holds h []
-none-holds h room e = record { room = room; kind = inl (record { len = e; text = ap (λ (n : ℕ). take n (h .bytes)) e; low = omega arith }) }
 
 -- past the last line that is read the number never comes back
 later : (n : ℕ) → 999999 < n → 999999 < numberAfter n
@@ -139,14 +82,14 @@ module _ {S : Type 0} (act : S → ℕ → List ℕ → S) (show : S → ℕ →
     (over-show : (s : S) (n : ℕ) (e : Bool) (l m : List ℕ) → 64 < length l → 64 < length m → show s n e l ≡ show s n e m) where
   -- what is held is as good as the line
   act-line : (h : Held) (p : List ℕ) → Holds h p → (s : S) (n : ℕ) → act s n (lineIn h) ≡ act s n p
-  act-line h p w s n = ⊎-elim (λ u. ap (act s n) (line-short h p u)) (λ u. over-act s n (lineIn h) p (line-long h p u) (u .high)) (w .kind)
+  act-line h p w s n = held-same (act s n) (over-act s n) h p w
 
   show-line : (h : Held) (p : List ℕ) → Holds h p → (s : S) (n : ℕ) (e : Bool) → show s n e (lineIn h) ≡ show s n e p
-  show-line h p w s n e = ⊎-elim (λ u. ap (show s n e) (line-short h p u)) (λ u. over-show s n e (lineIn h) p (line-long h p u) (u .high)) (w .kind)
+  show-line h p w s n e = held-same (show s n e) (over-show s n e) h p w
 
   -- an LF
   line-ended : (f : Feed S) (p : List ℕ) → Holds (f .held) p → f .number ≤ 999999
-      → endLine act show f ≡ record { state = act (f .state) (f .number) p; held = record { bytes = f .held .bytes; len = 0 }; number = f .number + 1 }
+      → endLine act show f ≡ record { state = act (f .state) (f .number) p; held = noneHeld; number = f .number + 1 }
   unfolding endLine isRead numberAfter
   line-ended f p w h =
       let k : f .number < 4294967295 = omega arith in
@@ -158,11 +101,11 @@ module _ {S : Type 0} (act : S → ℕ → List ℕ → S) (show : S → ℕ →
   unfolding runFrom
   told-end bs ih f p w k e =
       let h : f .number ≤ 999999 = omega arith in
-      let g : Feed S = record { state = act (f .state) (f .number) p; held = record { bytes = f .held .bytes; len = 0 }; number = f .number + 1 } in
+      let g : Feed S = record { state = act (f .state) (f .number) p; held = noneHeld; number = f .number + 1 } in
       let n : f .number + 1 + k ≡ 1000000 = omega arith in
       append-assoc (show (f .state) (f .number) true (lineIn (f .held))) (outOf act show (endLine act show f) bs) (lastOf act show (endOf act show (endLine act show f) bs))
       ∙ ap (λ (x : Feed S). show (f .state) (f .number) true (lineIn (f .held)) ++ (outOf act show x bs ++ lastOf act show (endOf act show x bs))) (line-ended f p w h)
-      ∙ ap (λ (l : List ℕ). show (f .state) (f .number) true (lineIn (f .held)) ++ l) (ih g [] (none-holds (g .held) (w .room) refl) k n)
+      ∙ ap (λ (l : List ℕ). show (f .state) (f .number) true (lineIn (f .held)) ++ l) (ih g [] none-holds k n)
       ∙ ap (λ (l : List ℕ). l ++ runFrom act show (g .state) (f .number + 1) (take k (linesFrom [] bs))) (show-line (f .held) p w (f .state) (f .number) true)
 
   -- any other byte
@@ -214,7 +157,7 @@ module _ {S : Type 0} (act : S → ℕ → List ℕ → S) (show : S → ℕ →
   -- a text fed whole gives what its lines give
   pub whole : (s : S) (t : List ℕ) → outOf act show (fresh s) t ++ lastOf act show (endOf act show (fresh s) t) ≡ wholeOf act show s t
   unfolding wholeOf linesOf
-  whole s t = told t (fresh s) [] (none-holds noneHeld refl refl) 999999 refl
+  whole s t = told t (fresh s) [] none-holds 999999 refl
 
   -- and so does a text in any pieces
   pub any-pieces : (s : S) (cs : List (List ℕ)) → streamOf act show (fresh s) cs ≡ wholeOf act show s (joined cs)

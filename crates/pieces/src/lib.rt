@@ -75,3 +75,18 @@ pub fn gather(held: Held, piece: &[u8], from: usize, to: usize) -> Gathered
         ended: false,
     }
 }
+
+// The index up to which gather takes the bytes: that of the first LF from index from on, if one is there.
+pub fn line_end(piece: &[u8], from: usize, to: usize) -> usize
+    ensures { λ r. ⌜ r ≡ gatherOf noneHeld (now (piece .entry)) from to .at ⌝ }
+{
+    let end = least(to, piece.len());
+    let mut i = from;
+    while i < end {
+        if piece[i] == 10 {
+            return i;
+        }
+        i += 1;
+    }
+    i
+}

@@ -2,7 +2,7 @@
 use Prim.Native.Nat.{ℕ, _+_, _*_, _/_, _≤_, _<_, min}
 use native.Mathlib.Omega.{arith}
 use mathlib.Core.Path.{_≡_, refl, sym, ap, _∙_}
-use mathlib.Core.Bool.{Bool, true, false}
+use mathlib.Core.Bool.{Bool, true, false, not}
 use mathlib.Core.List.{List, [], _∷_, append-nil}
 use borrow.Author.Tests.{le-leb, lt-leb, leb-true, leb-false, eq-eqb, ne-eqb}
 use lib.ListN.{length, take, replicate}
@@ -11,7 +11,11 @@ use Rattle.masks.specs.Pick.{pick, pick-true, pick-false}
 use Rattle.controller.specs.declared.Controller.{Controller}
 use Rattle.report.specs.Text.{Put, Wrote, fitting, headingOf}
 use Rattle.report.specs.Laws.{none, wrote, fits, tight, length-heading}
-use Rattle.pieces.specs.Feed.{Feed, endLine, byteS, byteO, endOf, outOf, lastOf}
+use Rattle.pieces.specs.declared.Held.{Held}
+use Rattle.pieces.specs.declared.Gathered.{Gathered}
+use Rattle.pieces.specs.Feed.{Feed, noneHeld, endLine, byteS, byteO, endOf, outOf, lastOf}
+use Rattle.pieces.specs.Gather.{gatherOf}
+use Rattle.pieces.specs.GatherLaws.{Stops, stops-within}
 use Rattle.replaying.specs.declared.Player.{Player}
 use Rattle.replaying.specs.declared.Session.{Session}
 use Rattle.replaying.specs.declared.Fed.{Fed}
@@ -19,28 +23,61 @@ use Rattle.replaying.specs.declared.Finished.{Finished}
 use Rattle.replaying.specs.declared.Turn.{Turn}
 use Rattle.replaying.specs.Replay.{play, showRow}
 use Rattle.replaying.specs.Session.{feedOf, Feeds, finishedOf, Finishes}
-use Rattle.replaying.specs.Turn.{opened, closed, Open, Settled, Seeks, Plays}
+use Rattle.replaying.specs.Turn.{reaches, opened, goesOn, closed, Open, AtLf, Settled, Begins, Plays}
+use Rattle.replaying.specs.OpenLaws.{open-reaches, settled-open}
+
+not-true : (y : Bool) → not y ≡ true → y ≡ false
+not-true true e = sym e
+not-true false e = refl
+
+not-false : (y : Bool) → not y ≡ false → y ≡ true
+not-false true e = refl
+not-false false e = sym e
 
 -- ---- a piece
 
 open-first : (s : Session) (piece out : List ℕ) (end : ℕ) → end ≤ length piece → 64 * end ≤ length out →
-    Open (feedOf s) piece out end (s .player .controller) (opened s) out
+    Open (feedOf s) piece out end (s .player .controller) (s .held) (opened s 0) out
 unfolding endOf outOf
 open-first s piece out end p q =
     record { bound = p; room = q; high = omega arith; lines = refl; session = refl; put = none out 0; low = omega arith }
 
-pub feeds : {s : Session} {piece out : List ℕ} {r : Fed} {out′ : List ℕ} {f t u : Turn} {c : Controller} {room room′ out₁ : List ℕ} {end : ℕ} →
-    end ≡ min (length piece) (length out / 64) → f ≡ opened s → Seeks piece end out f t out₁ → room ≡ replicate 14 0 →
-    Plays (s .player .controller) room piece end out₁ t u c room′ out′ → r ≡ closed c u → Feeds s piece out r out′
-feeds {s} {piece} {out} {r} {out′} {f} {t} {u} {c} {room} {room′} {out₁} {end} n q k z p e =
-    let o = open-first s piece out end (omega arith) (omega arith) in
-    let w : Settled (feedOf s) piece out end c u out′ = p .played .settles z (feedOf s) out ((rw q at k) .settles (feedOf s) out (s .player .controller) o) in
-    let all : u .taken ≡ end = w .rest (p .over) in
-    rw e (record {
-      taken = all ∙ n;
-      session = sym (w .reached .session);
-      wrote = wrote (w .reached .put) (omega (arith, w .reached .low, w .reached .room));
-    })
+-- what is left behind the last LF
+feeds-rest : (s : Session) (piece out : List ℕ) {end : ℕ} {c : Controller} {t : Turn} {out′ : List ℕ} {h : Gathered} → end ≡ min (length piece) (length out / 64) →
+    Settled (feedOf s) piece out end c t out′ → t .due ≡ false → h ≡ gatherOf noneHeld piece (t .taken) end → Feeds s piece out (closed c t (h .held) end) out′
+feeds-rest s piece out {end} {c} {t} {out′} {h} n w d e =
+    let o : Open (feedOf s) piece out end c noneHeld t out′ = settled-open w d in
+    let x : Open (feedOf s) piece out end c (h .held) (reaches t (h .at)) out′ = open-reaches o (omega arith) e in
+    let all : h .at ≡ end = ap (λ (y : Gathered). y .at) e ∙ w .rest d in
+    record {
+      taken = n;
+      session = sym (rw all at (x .session));
+      wrote = wrote (rw all at (x .put)) (omega (arith, o .low, o .room, o .high));
+    }
+
+module _ (s : Session) (piece out : List ℕ) {end : ℕ} (n : end ≡ min (length piece) (length out / 64)) {g : Gathered} (e : g ≡ gatherOf (s .held) piece 0 end) where
+  first : Open (feedOf s) piece out end (s .player .controller) (g .held) (opened s (g .at)) out
+  first = open-reaches (open-first s piece out end (omega arith) (omega arith)) (omega arith) e
+
+  pub within : Stops piece 0 end g
+  within = stops-within (s .held) piece 0 end g e (omega arith) (omega arith)
+
+  -- a piece without an LF
+  pub feeds-none : {r : Fed} {out′ : List ℕ} → not (g .ended) ≡ true → r ≡ goesOn s (g .held) end → out′ ≡ out → Feeds s piece out r out′
+  feeds-none f q k =
+      let all : g .at ≡ end = within .all (not-true (g .ended) f) in
+      rw (q, k) (record { taken = n; session = sym (rw all at (first .session)); wrote = wrote (rw all at (first .put)) (omega arith) })
+
+  pub first-lf : not (g .ended) ≡ false → AtLf piece end (opened s (g .at))
+  first-lf f = let l : g .ended ≡ true = not-false (g .ended) f in record { before = within .ended l; lf = within .lf l }
+
+  -- the first line, the steps of the others, and what is left behind the last LF
+  pub feeds : {r : Fed} {out′ : List ℕ} {f t u : Turn} {next : ℕ} {c : Controller} {room room′ out₁ : List ℕ} {nothing : Held} {h : Gathered} →
+      not (g .ended) ≡ false → f ≡ opened s (g .at) → next ≡ g .at + 1 → Begins piece end out f (g .held) next t out₁ → room ≡ replicate 14 0 →
+      Plays (s .player .controller) room piece end out₁ t u c room′ out′ → nothing ≡ noneHeld → h ≡ gatherOf nothing piece (u .taken) end → r ≡ closed c u (h .held) end → Feeds s piece out r out′
+  feeds {out′ = out′} {u = u} {c = c} l q m k z p i j d =
+      let w : Settled (feedOf s) piece out end c u out′ = p .played .settles z (feedOf s) out ((rw q at k) .settles (feedOf s) out (s .player .controller) first (first-lf l) m) in
+      rw d (feeds-rest s piece out n w (p .over) (j ∙ ap (λ (x : Held). gatherOf x piece (u .taken) end) i))
 
 -- ---- the heading
 

@@ -15,10 +15,12 @@ use Rattle.controller.specs.declared.FrameBytes.{FrameBytes}
 use Rattle.controller.specs.Session.{stepOf}
 use Rattle.controller.specs.Code.{roomFor}
 use Rattle.lines.specs.declared.Line.the-variants.{Step}
+use Rattle.lines.specs.declared.Parsed.{Parsed}
 use Rattle.lines.specs.Grammar.{lineOf}
 use Rattle.report.specs.Text.{Put}
 use Rattle.pieces.specs.declared.Held.{Held}
-use Rattle.pieces.specs.Feed.{Feed, lineIn, numberAfter, isRead, endOf, outOf}
+use Rattle.pieces.specs.Feed.{Feed, noneHeld, lineIn, numberAfter, isRead, endOf, outOf}
+use Rattle.pieces.specs.Gather.{gatherOf}
 use Rattle.replaying.specs.declared.Player.{Player}
 use Rattle.replaying.specs.declared.Tally.{Tally}
 use Rattle.replaying.specs.declared.Session.{Session}
@@ -28,17 +30,30 @@ use Rattle.replaying.specs.Replay.{stepIn, isRefused, play, showRow}
 
 -- ---- turns
 
--- the bytes up to index at gathered
-abbrev pub reaches : Turn → Held → ℕ → Turn
-reaches t h at =
+-- no step: any would do
+abbrev pub idles : Turn → Turn
+idles t =
     record {
-      held = h;
+      number = t .number;
+      tally = t .tally;
+      irq = t .irq;
+      taken = t .taken;
+      written = t .written;
+      due = false;
+      call = Reset;
+      frame = record { bytes = replicate 30 0; size = 0 };
+    }
+
+-- at the LF that ends the line
+abbrev pub reaches : Turn → ℕ → Turn
+reaches t at =
+    record {
       number = t .number;
       tally = t .tally;
       irq = t .irq;
       taken = at;
       written = t .written;
-      due = false;
+      due = t .due;
       call = t .call;
       frame = t .frame;
     }
@@ -47,7 +62,6 @@ reaches t h at =
 abbrev pub awaits : Turn → Call → FrameBytes → Turn
 awaits t call f =
     record {
-      held = t .held;
       number = t .number;
       tally = t .tally;
       irq = t .irq;
@@ -62,7 +76,6 @@ awaits t call f =
 abbrev pub passes : Turn → ℕ → ℕ → Tally → ℕ → Turn
 passes t next irq tally written =
     record {
-      held = record { bytes = t .held .bytes; len = 0 };
       number = numberAfter (t .number);
       tally = tally;
       irq = irq;
@@ -81,27 +94,30 @@ unreadOf k = record { unread = numberAfter (k .unread); refused = k .refused }
 unfoldable pub countedOf : Tally → Answer → Tally
 countedOf k a = record { unread = k .unread; refused = pick (isRefused a) (numberAfter (k .refused)) (k .refused) }
 
--- before the first byte of a piece
-abbrev pub opened : Session → Turn
-opened s =
+-- at the first LF of a piece
+abbrev pub opened : Session → ℕ → Turn
+opened s at =
     record {
-      held = s .held;
       number = s .number;
       tally = s .player .tally;
       irq = linesOf (s .player .controller .control);
-      taken = 0;
+      taken = at;
       written = 0;
       due = false;
       call = Reset;
       frame = record { bytes = replicate 30 0; size = 0 };
     }
 
--- after its last
-abbrev pub closed : Controller → Turn → Fed
-closed c t =
+-- after a piece without one
+abbrev pub goesOn : Session → Held → ℕ → Fed
+goesOn s h end = record { session = record { player = s .player; held = h; number = s .number }; taken = end; written = 0 }
+
+-- after a piece's last byte, with so much held
+abbrev pub closed : Controller → Turn → Held → ℕ → Fed
+closed c t h end =
     record {
-      session = record { player = record { controller = c; tally = t .tally }; held = t .held; number = t .number };
-      taken = t .taken;
+      session = record { player = record { controller = c; tally = t .tally }; held = h; number = t .number };
+      taken = end;
       written = t .written;
     }
 
@@ -115,16 +131,17 @@ left end t = leftBy (t .due) (end - t .taken)
 
 -- ---- where the loop stands
 
-abbrev pub feedAt : Controller → Turn → Feed Player
-feedAt c t = record { state = record { controller = c; tally = t .tally }; held = t .held; number = t .number }
+-- h: the bytes of the line that is not ended yet. The loop itself doesn't keep them
+abbrev pub feedAt : Controller → Held → Turn → Feed Player
+feedAt c h t = record { state = record { controller = c; tally = t .tally }; held = h; number = t .number }
 
 -- the bytes before index taken are fed, and what was written for them is in the room
-pub record Open (s₀ : Feed Player) (piece out₀ : List ℕ) (end : ℕ) (c : Controller) (t : Turn) (out : List ℕ) : Type 0 where
+pub record Open (s₀ : Feed Player) (piece out₀ : List ℕ) (end : ℕ) (c : Controller) (h : Held) (t : Turn) (out : List ℕ) : Type 0 where
   pub bound : end ≤ length piece
   pub room : 64 * end ≤ length out₀
   pub high : t .taken ≤ end
   pub lines : t .irq ≡ linesOf (c .control)
-  pub session : endOf play showRow s₀ (take (t .taken) piece) ≡ feedAt c t
+  pub session : endOf play showRow s₀ (take (t .taken) piece) ≡ feedAt c h t
   pub put : Put out₀ 0 (outOf play showRow s₀ (take (t .taken) piece)) out (t .written)
   pub low : t .written ≤ 64 * t .taken
 
@@ -134,38 +151,47 @@ pub record AtLf (piece : List ℕ) (end : ℕ) (t : Turn) : Type 0 where
   pub lf : getD piece (t .taken) 0 ≡ 10
 
 -- that line is a step, which is to be read
-pub record Due (piece : List ℕ) (end : ℕ) (t : Turn) : Type 0 where
+pub record Due (piece : List ℕ) (end : ℕ) (h : Held) (t : Turn) : Type 0 where
   pub at-lf : AtLf piece end t
   pub read : isRead (t .number) ≡ true
-  pub line : lineOf (lineIn (t .held)) ≡ record { line = Step (t .call); frame = t .frame }
+  pub line : lineOf (lineIn h) ≡ record { line = Step (t .call); frame = t .frame }
 
--- a step is due, or all is taken
+-- a step is due, or index taken is that of a line that doesn't end before index end
 pub record Settled (s₀ : Feed Player) (piece out₀ : List ℕ) (end : ℕ) (c : Controller) (t : Turn) (out : List ℕ) : Type 0 where
-  pub reached : Open s₀ piece out₀ end c t out
-  pub step : t .due ≡ true → Due piece end t
-  pub rest : t .due ≡ false → t .taken ≡ end
+  pub held : Held
+  pub reached : Open s₀ piece out₀ end c held t out
+  pub step : t .due ≡ true → Due piece end held t
+  pub begins : t .due ≡ false → held ≡ noneHeld
+  pub rest : t .due ≡ false → gatherOf noneHeld piece (t .taken) end .at ≡ end
 
 -- ---- what the functions promise
 
--- `line_ended`, at an LF: the step is due, or the line is done with
-pub record Ends (t : Turn) (next : ℕ) (out : List ℕ) (r : Turn) (out′ : List ℕ) : Type 0 where
+-- `line_ended`, at the LF of a line that is read as p: the step is due, or the line is done with
+pub record Ends (t : Turn) (p : Parsed) (next : ℕ) (out : List ℕ) (r : Turn) (out′ : List ℕ) : Type 0 where
   pub stays : r .due ≡ true → r .taken ≡ t .taken
   pub passed : r .due ≡ false → r .taken ≡ next
-  pub opens : (s₀ : Feed Player) (piece out₀ : List ℕ) (end : ℕ) (c : Controller) → Open s₀ piece out₀ end c t out → AtLf piece end t → next ≡ t .taken + 1 →
-      Open s₀ piece out₀ end c r out′
-  pub step : (piece : List ℕ) (end : ℕ) → AtLf piece end t → r .due ≡ true → Due piece end r
+  pub waits : r .due ≡ true → (s₀ : Feed Player) (piece out₀ : List ℕ) (end : ℕ) (c : Controller) (h : Held) → Open s₀ piece out₀ end c h t out →
+      Open s₀ piece out₀ end c h r out′
+  pub step : r .due ≡ true → (piece : List ℕ) (end : ℕ) (h : Held) → AtLf piece end t → p ≡ lineOf (lineIn h) → Due piece end h r
+  pub opens : r .due ≡ false → (s₀ : Feed Player) (piece out₀ : List ℕ) (end : ℕ) (c : Controller) (h : Held) → Open s₀ piece out₀ end c h t out → AtLf piece end t →
+      next ≡ t .taken + 1 → p ≡ lineOf (lineIn h) → Open s₀ piece out₀ end c noneHeld r out′
 
--- some turns of the loop in `seek`, from t to r
+-- some turns of the loop in `seek`, from t to r, each at the start of a line
 pub record Seeking (piece : List ℕ) (end : ℕ) (out : List ℕ) (t r : Turn) (out′ : List ℕ) : Type 0 where
   pub idle : r .due ≡ false
   pub ahead : t .taken ≤ r .taken
-  pub opens : (s₀ : Feed Player) (out₀ : List ℕ) (c : Controller) → Open s₀ piece out₀ end c t out → Open s₀ piece out₀ end c r out′
+  pub opens : (s₀ : Feed Player) (out₀ : List ℕ) (c : Controller) → Open s₀ piece out₀ end c noneHeld t out → Open s₀ piece out₀ end c noneHeld r out′
 
 -- `seek`
 pub record Seeks (piece : List ℕ) (end : ℕ) (out : List ℕ) (t r : Turn) (out′ : List ℕ) : Type 0 where
   pub ahead : r .due ≡ true → t .taken ≤ r .taken
   pub short : r .due ≡ true → r .taken < end
-  pub settles : (s₀ : Feed Player) (out₀ : List ℕ) (c : Controller) → Open s₀ piece out₀ end c t out → Settled s₀ piece out₀ end c r out′
+  pub settles : (s₀ : Feed Player) (out₀ : List ℕ) (c : Controller) → Open s₀ piece out₀ end c noneHeld t out → Settled s₀ piece out₀ end c r out′
+
+-- `begun`, at the first LF, with so much held
+pub record Begins (piece : List ℕ) (end : ℕ) (out : List ℕ) (t : Turn) (h : Held) (next : ℕ) (r : Turn) (out′ : List ℕ) : Type 0 where
+  pub settles : (s₀ : Feed Player) (out₀ : List ℕ) (c : Controller) → Open s₀ piece out₀ end c h t out → AtLf piece end t → next ≡ t .taken + 1 →
+      Settled s₀ piece out₀ end c r out′
 
 -- the due step of t was done on the controller c: its answer, the five lines after it, and the room, which was clear
 pub record Stepped (c : Controller) (t : Turn) (a : Answer) (irq : ℕ) (room : List ℕ) : Type 0 where

@@ -14,7 +14,7 @@ use Rattle.replaying.specs.declared.Player.{Player}
 use Rattle.replaying.specs.Replay.{playedBy, rowBy, play, showRow, freshPlayer, startOf, replayOf}
 
 -- all lines above 64 bytes are the same to the replay
-over-line : (l m : List ℕ) → 64 < length l → 64 < length m → lineOf l ≡ lineOf m
+pub over-line : (l m : List ℕ) → 64 < length l → 64 < length m → lineOf l ≡ lineOf m
 over-line l m p q = over-unread l p ∙ sym (over-unread m q)
 
 over-play : (s : Player) (n : ℕ) (l m : List ℕ) → 64 < length l → 64 < length m → play s n l ≡ play s n m

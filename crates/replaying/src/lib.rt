@@ -6,7 +6,7 @@ ghost use mathlib.Core.Path.{_≡_};
 ghost use Rattle.report.specs.Text.{Wrote, fitting, headingOf};
 ghost use Rattle.replaying.specs.Replay.{startOf};
 ghost use Rattle.replaying.specs.Session.{feedOf, Feeds, Finishes};
-ghost use Rattle.replaying.specs.Turn.{opened, closed};
+ghost use Rattle.replaying.specs.Turn.{opened, goesOn, closed};
 use controller::Call;
 use controller::Controller;
 use controller::FrameBytes;
@@ -45,9 +45,9 @@ pub struct Finished {
 }
 
 // Where the loop over a piece's lines stands, all but the controller. While a step is due, taken is the index of the LF
-// that ends its line, and call and frame are the step.
+// that ends its line, and call and frame are the step; else it is the index of a line's first byte. No line's bytes are
+// kept here: it is copied from turn to turn.
 struct Turn {
-    held: Held,
     number: u32,
     tally: Tally,
     irq: u8,
@@ -90,20 +90,18 @@ pub fn begin(out: &mut [u8]) -> usize
     report::heading(out, 0)
 }
 
-// Where the loop stands before a piece's first byte. It has no step yet: any would do.
-fn first(s: Session) -> Turn
-    ensures { λ r. ⌜ r ≡ opened s ⌝ }
+// Where the loop stands at the first LF of a piece, which is at index at. It has no step yet: any would do.
+fn first(s: Session, at: usize) -> Turn
+    ensures { λ r. ⌜ r ≡ opened s at ⌝ }
 {
     let player = s.player;
     let c = player.controller;
     let tally = player.tally;
-    let held = s.held;
     Turn {
-        held,
         number: s.number,
         tally,
         irq: c.lines(),
-        taken: 0,
+        taken: at,
         written: 0,
         due: false,
         call: Call::Reset,
@@ -114,12 +112,28 @@ fn first(s: Session) -> Turn
     }
 }
 
-// The session where the loop stands after the piece.
-fn last(c: Controller, t: Turn) -> Fed
-    ensures { λ r. ⌜ r ≡ closed c t ⌝ }
+// The session after a piece with no LF.
+fn unended(s: Session, held: Held, end: usize) -> Fed
+    ensures { λ r. ⌜ r ≡ goesOn s held end ⌝ }
+{
+    let player = s.player;
+    let session = Session {
+        player,
+        held,
+        number: s.number,
+    };
+    Fed {
+        session,
+        taken: end,
+        written: 0,
+    }
+}
+
+// The session after the piece, of whose last line so much is held.
+fn last(c: Controller, t: Turn, held: Held, end: usize) -> Fed
+    ensures { λ r. ⌜ r ≡ closed c t held end ⌝ }
 {
     let tally = t.tally;
-    let held = t.held;
     let player = Player {
         controller: c,
         tally,
@@ -131,25 +145,36 @@ fn last(c: Controller, t: Turn) -> Fed
     };
     Fed {
         session,
-        taken: t.taken,
+        taken: end,
         written: t.written,
     }
 }
 
 // Feeds a piece of the recording, and writes the rows of its lines at the start of out. A byte is taken only while there
-// are 64 bytes of room for each: of a piece of at most a 64th of the room all are taken.
+// are 64 bytes of room for each: of a piece of at most a 64th of the room all are taken. Only the first line and what is
+// left behind the last LF are held: the other lines are read where they lie.
 pub fn feed(s: Session, piece: &[u8], out: &mut [u8]) -> Fed
     ensures { λ r. ⌜ Feeds s (now (piece .entry)) (now (out .entry)) r (now (out .exit)) ⌝ }
 {
     let end = turns::least(piece.len(), out.len() / 64);
-    let t = turns::seek(piece, end, out, first(s));
+    let held = s.held;
+    let g = pieces::gather(held, piece, 0, end);
+    let line = g.held;
+    let ended = g.ended;
+    if !ended {
+        return unended(s, line, end);
+    }
+    let at = g.at;
+    let t = turns::begun(piece, end, out, first(s, at), line, at + 1);
     let player = s.player;
     let c = player.controller;
     let mut room = [0u8; 14];
     let lent = in_place::lines_lent(c, &mut room, piece, end, out, t);
     let next = lent.controller;
     let t = lent.turn;
-    last(next, t)
+    let rest = pieces::gather(pieces::none(), piece, t.taken, end);
+    let held = rest.held;
+    last(next, t, held, end)
 }
 
 // Ends the recording: a last line that is not ended counts if it is not empty. With less than 64 bytes of room nothing

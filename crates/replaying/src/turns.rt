@@ -5,7 +5,7 @@ ghost use lib.ListN.{length, replicate};
 ghost use Rattle.lines.specs.Grammar.{lineOf};
 ghost use Rattle.pieces.specs.Feed.{lineIn};
 ghost use Rattle.replaying.specs.Sent.{sentSize};
-ghost use Rattle.replaying.specs.Turn.{reaches, awaits, passes, unreadOf, countedOf, Ends, Seeks, Answers};
+ghost use Rattle.replaying.specs.Turn.{idles, reaches, awaits, passes, unreadOf, countedOf, Ends, Seeks, Begins, Answers};
 use crate::Tally;
 use crate::Turn;
 use controller::Call;
@@ -27,14 +27,32 @@ fn parsed(h: Held) -> Parsed
     lines::parse(&bytes[..n])
 }
 
-// The turn with the bytes up to index at gathered.
-fn reached(t: Turn, held: Held, at: usize) -> Turn
-    ensures { λ r. ⌜ r ≡ reaches t held at ⌝ }
+// The turn with no step. The last one's is not carried on: it would be copied from line to line.
+fn idle(t: Turn) -> Turn
+    ensures { λ r. ⌜ r ≡ idles t ⌝ }
+{
+    let tally = t.tally;
+    Turn {
+        number: t.number,
+        tally,
+        irq: t.irq,
+        taken: t.taken,
+        written: t.written,
+        due: false,
+        call: Call::Reset,
+        frame: FrameBytes {
+            bytes: [0u8; 30],
+            size: 0,
+        },
+    }
+}
+
+// The turn at the LF that ends its line.
+fn reached(t: Turn, at: usize) -> Turn
+    ensures { λ r. ⌜ r ≡ reaches t at ⌝ }
 {
     let mut next = t;
-    next.held = held;
     next.taken = at;
-    next.due = false;
     next
 }
 
@@ -42,10 +60,8 @@ fn reached(t: Turn, held: Held, at: usize) -> Turn
 fn awaiting(t: Turn, call: Call, frame: FrameBytes) -> Turn
     ensures { λ r. ⌜ r ≡ awaits t call frame ⌝ }
 {
-    let held = t.held;
     let tally = t.tally;
     Turn {
-        held,
         number: t.number,
         tally,
         irq: t.irq,
@@ -63,7 +79,6 @@ fn passed(t: Turn, at: usize, irq: u8, tally: Tally, written: usize) -> Turn
 {
     let number = pieces::number_after(t.number);
     let mut next = t;
-    next.held.len = 0;
     next.number = number;
     next.tally = tally;
     next.irq = irq;
@@ -96,9 +111,10 @@ fn counted(k: Tally, a: Answer) -> Tally
     }
 }
 
-// At a line's LF, behind which index next stands: its step is due, or the line is done with and has its row, if it is read.
-fn line_ended(t: Turn, next: usize, out: &mut [u8]) -> Turn
-    ensures { λ r. ⌜ Ends t next (now (out .entry)) r (now (out .exit)) ⌝ }
+// At the LF of a line that is read as p, behind which index next stands: its step is due, or the line is done with and has
+// its row, if it is read.
+fn line_ended(t: Turn, p: Parsed, next: usize, out: &mut [u8]) -> Turn
+    ensures { λ r. ⌜ Ends t p next (now (out .entry)) r (now (out .exit)) ⌝ }
 {
     let number = t.number;
     let irq = t.irq;
@@ -106,8 +122,6 @@ fn line_ended(t: Turn, next: usize, out: &mut [u8]) -> Turn
     if 999999 < number {
         return passed(t, next, irq, tally, t.written);
     }
-    let held = t.held;
-    let p = parsed(held);
     let line = p.line;
     match line {
         Line::Step(call) => {
@@ -121,29 +135,37 @@ fn line_ended(t: Turn, next: usize, out: &mut [u8]) -> Turn
     }
 }
 
-// Gathers lines up to the next one that is a step, or to index end.
+// Reads the lines that lie whole before index end, where they lie, up to the next one that is a step.
 pub fn seek(piece: &[u8], end: usize, out: &mut [u8], start: Turn) -> Turn
     ensures { λ r. ⌜ Seeks (now (piece .entry)) end (now (out .entry)) start r (now (out .exit)) ⌝ }
 {
-    let mut t = start;
-    t.due = false;
+    let mut t = idle(start);
     while t.taken < end {
-        let held = t.held;
-        let g = pieces::gather(held, piece, t.taken, end);
-        let at = g.at;
-        let gathered = g.held;
-        t = reached(t, gathered, at);
-        let ended = g.ended;
-        if !ended {
+        let from = t.taken;
+        let at = pieces::line_end(piece, from, end);
+        if least(end, piece.len()) <= at {
             return t;
         }
-        t = line_ended(t, at + 1, out);
+        let p = lines::parse(&piece[from..at]);
+        t = line_ended(reached(t, at), p, at + 1, out);
         let due = t.due;
         if due {
             return t;
         }
     }
     t
+}
+
+// The piece's first line ends at the LF where t stands, before index next, and all of it is held: its step, or the next.
+pub fn begun(piece: &[u8], end: usize, out: &mut [u8], t: Turn, held: Held, next: usize) -> Turn
+    ensures { λ r. ⌜ Begins (now (piece .entry)) end (now (out .entry)) t held next r (now (out .exit)) ⌝ }
+{
+    let u = line_ended(t, parsed(held), next, out);
+    let due = u.due;
+    if due {
+        return u;
+    }
+    seek(piece, end, out, u)
 }
 
 // The index behind at, but none behind end.

@@ -8,16 +8,16 @@ use Rattle.lines.proofs.byte.Tie as tie
 nibble-requires : tie.Need-nibble-requires
 nibble-requires c κs = search needs
 
+returns : tie.Need-returns
+unfolding byteOf
+returns c = simp (pick-true, lt-ltb _ _ (c .if1 .taken), ← (c .before .nibble .ensures))
+
 nibble-requires-2 : tie.Need-nibble-requires-2
 nibble-requires-2 c κs = search needs
 
-returns : tie.Need-returns
-unfolding byteOf
-returns c = simp (pick-true, lt-ltb _ _ (c .if1 .taken), ← (c .before .before .nibble .ensures))
-
 returns-2 : tie.Need-returns-2
 unfolding byteOf
-returns-2 c = simp (pick-true, pick-false, lt-ltb _ _ (c .if2 .taken), le-ltb _ _ (c .before .if1 .left), ← (c .before .before .nibble2 .ensures), ← (c .before .before .before .nibble .ensures))
+returns-2 c = simp (pick-true, pick-false, lt-ltb _ _ (c .if2 .taken), ← (c .before .nibble2 .ensures), le-ltb _ _ (c .before .before .if1 .left), ← (c .before .before .before .nibble .ensures))
 
 mul-result : tie.Need-mul-result
 mul-result c = search needs
@@ -27,9 +27,9 @@ add-result c = search needs
 
 returns-3 : tie.Need-returns-3
 unfolding byteOf
-returns-3 c = simp (pick-false, le-ltb _ _ (c .if2 .left), le-ltb _ _ (c .before .if1 .left), ← (c .before .before .nibble2 .ensures), ← (c .before .before .before .nibble .ensures))
+returns-3 c = simp (pick-false, le-ltb _ _ (c .if2 .left), ← (c .before .nibble2 .ensures), le-ltb _ _ (c .before .before .if1 .left), ← (c .before .before .before .nibble .ensures))
 
 pub byte-spec : {M : Type 1} → statement M
 byte-spec =
     tie.close
-    (tie.spec nibble-requires nibble-requires-2 returns returns-2 mul-result add-result returns-3)
+    (tie.spec nibble-requires returns nibble-requires-2 returns-2 mul-result add-result returns-3)

@@ -55,7 +55,6 @@ use Rattle.controller.proofs.Controller.Laws as T′
 use Rattle.replaying.specs.declared.Turn.{Turn}
 use Rattle.replaying.proofs.Turn as U
 use Rattle.replaying.proofs.Turn.Laws as U′
-use Rattle.pieces.proofs.Held.Laws as Held-row′
 use Rattle.replaying.proofs.Tally.Laws as Tally-row′
 use Rattle.controller.specs.declared.Call.{Call}
 use Rattle.controller.proofs.Call as Call-row
@@ -112,7 +111,7 @@ abbrev rec-ty : Ty
 rec-ty = pointee (T.the-row .written)
 
 abbrev turn-ty : Ty
-turn-ty = tyStruct (U.struct .name) (tcons Held-row′.mir (tcons (tyInt w32) (tcons Tally-row′.mir (tcons byte (tcons word (tcons word (tcons tyBool (tcons Call-row′.mir (tcons Frame-row′.mir tnil)))))))))
+turn-ty = tyStruct (U.struct .name) (tcons (tyInt w32) (tcons Tally-row′.mir (tcons byte (tcons word (tcons word (tcons tyBool (tcons Call-row′.mir (tcons Frame-row′.mir tnil))))))))
 
 -- the machine value of a record
 abbrev mach : Controller → Val
@@ -178,10 +177,10 @@ module _ {M : Type 1} (𝓤 : URA M) (H : Heap 𝓤) (A : Atoms 𝓤) (W : Given
 
   -- what whoever holds the turn knows of its step
   call-is : Is Call-row.the-row (t .call) (EL.val Call-row.the-type Call-row′.the-laws (t .call) ∷ [])
-  call-is = LL.owed U.the-type U′.the-laws t _ t-is .1 .1 .1 .1 .1 .1 .1 .0
+  call-is = LL.owed U.the-type U′.the-laws t _ t-is .1 .1 .1 .1 .1 .1 .0
 
   frame-is : Is Frame-row.the-row (t .frame) (LL.val Frame-row.the-type Frame-row′.the-laws (t .frame) ∷ [])
-  frame-is = LL.owed U.the-type U′.the-laws t _ t-is .1 .1 .1 .1 .1 .1 .1 .1 .0
+  frame-is = LL.owed U.the-type U′.the-laws t _ t-is .1 .1 .1 .1 .1 .1 .1 .0
 
   now-room : (zs : List ℕ) → length zs ≡ length room → Room u8 (length zs)
   now-room zs l = subst (Room u8) (sym l) room-room
@@ -288,7 +287,7 @@ module _ {M : Type 1} (𝓤 : URA M) (H : Heap 𝓤) (A : Atoms 𝓤) (W : Given
           lft-new ! tt (λ ν. move ! (1 ∷ 2 ∷ []) $ use2 W (later (some (λ (δ : GName). ‵ (Rec ((ν ∷ [])) δ h) ⊛ ‵ (LentAgain T.the-row κ (ν ∷ []) q γ b o δ h)))) (lends-again 𝓤 H A W T.the-row (named 0) κ (ν ∷ []) q γ b o (named 0) h) $ await ! tt $ pick ! (λ δ. split ! $
           lft-new ! tt (λ ν′. move ! (4 ∷ 5 ∷ []) $ use2 W (later (some (λ (δ′ : GName). ‵ (Room′ ((ν′ ∷ [])) δ′ room ((length room))) ⊛ ‵ (Sl.LentAgain u8 κ-room (ν′ ∷ []) q-room γ-room b-room o-room δ′ room)))) (Sl.lends-again u8 κ-room (ν′ ∷ []) q-room γ-room b-room o-room 𝓤 H A W (named 1) (named 1) room) $ await ! tt $ pick ! (λ δ′. split ! $
           move ! (5 ∷ 2 ∷ 3 ∷ 0 ∷ []) $ group ! 4 $ use1 W (raw (Step 𝓤 H A at-mem run .pre (to ν ν′ δ δ′))) (asked ν ν′ δ δ′) $
-          calls-at ! fm (Step 𝓤 H A at-mem run) known (to ν ν′ δ δ′) (and-then ! (load ! (from ! (stop !)) (look ! 16 refl)) (and-then ! (load ! (from ! (fld ! refl (stop !))) (look-in ! 13 (sub ! 7 refl (whole !)))) (and-then ! (load ! (from ! (fld ! refl (stop !))) (look-in ! 13 (sub ! 8 refl (whole !)))) (and-then ! (load ! (from ! (stop !)) (look ! 18 refl)) (no-more !))))) (λ v.
+          calls-at ! fm (Step 𝓤 H A at-mem run) known (to ν ν′ δ δ′) (and-then ! (load ! (from ! (stop !)) (look ! 16 refl)) (and-then ! (load ! (from ! (fld ! refl (stop !))) (look-in ! 13 (sub ! 6 refl (whole !)))) (and-then ! (load ! (from ! (fld ! refl (stop !))) (look-in ! 13 (sub ! 7 refl (whole !)))) (and-then ! (load ! (from ! (stop !)) (look ! 18 refl)) (no-more !))))) (λ v.
           use1 W (later (some (λ (x : Answer). ((‵ (flft (ν ∷ []) fullShare) ⊛ ‵ (flft (ν′ ∷ []) fullShare) ⊛ ‵ ftrue) ⊛ ‵ (Answer-row.the-row .own x (v ∷ []))) ⊛ raw (ensured 𝓤 H A step.ended (step.clauses 𝓤 H A at-mem run) (ν ∷ [], (ν′ ∷ [], tt)) (args ν ν′ δ δ′) tt x)))) (id⊢ 𝓤 _) $ await ! tt $ pick ! (λ x.
           split ! $ move ! (1 ∷ []) $ use1 W (some (λ (ws : Lasts step.ended (ν ∷ [], (ν′ ∷ [], tt)) (args ν ν′ δ δ′)). ‵ (lasts step.ended (ν ∷ [], (ν′ ∷ [], tt)) (args ν ν′ δ δ′) ws) ⊛ raw (fact 𝓤 (Said (ws .0) x (ws .1 .1 .1 .0))))) (id⊢ 𝓤 _) $ pick ! (λ ws.
           split ! $ move ! (1 ∷ []) $ heard ! (Said (ws .0) x (ws .1 .1 .1 .0)) (λ e. fsplit ! $ move ! (1 ∷ []) $ fsplit ! $ drop ! $ fsplit ! $ drop ! $ fsplit ! $ fsplit ! $ move ! (1 ∷ []) $ feqL ! (λ l.

@@ -51,7 +51,6 @@ use Rattle.controller.proofs.Controller as T
 use Rattle.replaying.specs.declared.Turn.{Turn}
 use Rattle.replaying.proofs.Turn as U
 use Rattle.replaying.proofs.Turn.Laws as U′
-use Rattle.pieces.proofs.Held.Laws as Held-row′
 use Rattle.replaying.proofs.Tally.Laws as Tally-row′
 use Rattle.controller.proofs.Call.Laws as Call-row′
 use Rattle.controller.proofs.FrameBytes.Laws as Frame-row′
@@ -87,7 +86,7 @@ abbrev rec-ty : Ty
 rec-ty = pointee (T.the-row .written)
 
 abbrev turn-ty : Ty
-turn-ty = tyStruct (U.struct .name) (tcons Held-row′.mir (tcons (tyInt w32) (tcons Tally-row′.mir (tcons byte (tcons word (tcons word (tcons tyBool (tcons Call-row′.mir (tcons Frame-row′.mir tnil)))))))))
+turn-ty = tyStruct (U.struct .name) (tcons (tyInt w32) (tcons Tally-row′.mir (tcons byte (tcons word (tcons word (tcons tyBool (tcons Call-row′.mir (tcons Frame-row′.mir tnil))))))))
 
 -- the machine value that a turn is at is its own
 turn-is : (r : Turn) (vs : List Val) → Is U.the-row r vs → Is U.the-row r (LL.val U.the-type U′.the-laws r ∷ [])
@@ -217,7 +216,7 @@ module _ {M : Type 1} (𝓤 : URA M) (H : Heap 𝓤) (A : Atoms 𝓤) (W : Given
     ends : (s : S) → s .t .due ≡ false → Sq W (I s) (runs C Λ En pieces.turn-1 (anyQ (afterTurn 𝓤 H (Below 𝓤 H A (≺ h room piece end out start) I s) Left)))
     unfolding afterTurn
     ends s d =
-        assigns ! (of-opd ! (load ! (from ! (fld ! refl (stop !))) (look-in ! 15 (sub ! 6 refl (whole !))))) (from ! (stop !)) (init ! 16 refl (tt, tt)) $
+        assigns ! (of-opd ! (load ! (from ! (fld ! refl (stop !))) (look-in ! 15 (sub ! 5 refl (whole !))))) (from ! (stop !)) (init ! 16 refl (tt, tt)) $
         rewrite ! 16 (λ (y : Bool). ‵ (fat fullShare tyBool l8 0 (vbool y))) d refl $ leaves-loop ! (load ! (from ! (stop !)) (look ! 16 refl)) $ exec ! C Λ En pieces.t-3 (atRet En Post) $
         assigns ! (of-opd ! (load ! (from ! (stop !)) (look ! 15 refl))) (from ! (stop !)) (init ! 8 refl (LL.lawful U.the-type U′.the-laws 𝓤 H A W .typed (s .t) _ (s .t-is) .0)) $
         returns ! (look ! 8 refl) $ forget ! 8 refl $ forget ! 9 refl $ forget ! 10 refl $ forget ! 11 refl $ forget ! 12 refl $ forget ! 13 refl $ forget ! 14 refl $ forget ! 15 refl $ forget ! 16 refl $
@@ -228,7 +227,7 @@ module _ {M : Type 1} (𝓤 : URA M) (H : Heap 𝓤) (A : Atoms 𝓤) (W : Given
     more : (s : S) → s .t .due ≡ true → Sq W (I s) (runs C Λ En pieces.turn-1 (anyQ (afterTurn 𝓤 H (Below 𝓤 H A (≺ h room piece end out start) I s) Left)))
     unfolding afterTurn
     more s d =
-        assigns ! (of-opd ! (load ! (from ! (fld ! refl (stop !))) (look-in ! 15 (sub ! 6 refl (whole !))))) (from ! (stop !)) (init ! 16 refl (tt, tt)) $
+        assigns ! (of-opd ! (load ! (from ! (fld ! refl (stop !))) (look-in ! 15 (sub ! 5 refl (whole !))))) (from ! (stop !)) (init ! 16 refl (tt, tt)) $
         rewrite ! 16 (λ (y : Bool). ‵ (fat fullShare tyBool l8 0 (vbool y))) d refl $ stays ! (load ! (from ! (stop !)) (look ! 16 refl)) $
         assigns ! (addr ! (from ! (hop ! (look ! 9 refl) (stop !)))) (from ! (stop !)) (init ! 17 refl (tt, tt)) $
         assigns ! (addr ! (from ! (fld ! refl (hop ! (look-in ! 10 (sub ! 0 refl (whole !))) (stop !))))) (from ! (stop !)) (init ! 18 refl (tt, tt)) $

@@ -11,9 +11,6 @@ passed-requires c κs = search needs
 returns : tie.Need-returns
 returns c = ends-past (is-past _ (c .before .if1 .taken)) (c .passed .ensures) refl
 
-parsed-requires : tie.Need-parsed-requires
-parsed-requires c κs = search needs
-
 enum-known-line : tie.Need-enum-known-line
 enum-known-line c = search needs
 
@@ -34,8 +31,8 @@ passed-requires-2 c κs = search needs
 
 returns-2 : tie.Need-returns-2
 returns-2 c =
-    let read = c .before .before .before .before .before in
-    ends-due (is-read _ (read .before .before .if1 .left)) _ (read .parsed .ensures) _ (c .before .before .before .line .given .1) (c .awaiting .ensures) refl
+    let line = c .before .before .before in
+    ends-due (is-read _ (line .before .before .if1 .left)) _ (line .line .given .1) (c .awaiting .ensures) refl
 
 same-length : tie.Need-same-length
 same-length c = search needs
@@ -43,8 +40,8 @@ same-length c = search needs
 returns-3 : tie.Need-returns-3
 returns-3 c =
     let row = c .before .before .before .before in
-    let read = row .before .before .before .before in
-    ends-unread (is-read _ (read .before .before .if1 .left)) _ (read .parsed .ensures) (row .before .before .enum-told .given .1) _ (c .before .unread-counted .ensures) _ (row .unread-row .ensures) (c .passed2 .ensures)
+    let line = row .before .before in
+    ends-unread (is-read _ (line .before .before .if1 .left)) (line .enum-told .given .1) _ (c .before .unread-counted .ensures) _ (row .unread-row .ensures) (c .passed2 .ensures)
 
 pub line-ended-spec : {M : Type 1} → statement M
 line-ended-spec =
@@ -52,7 +49,6 @@ line-ended-spec =
     (tie.spec
     passed-requires
     returns
-    parsed-requires
     enum-known-line
     awaiting-requires
     enum-told

@@ -6,7 +6,7 @@ number-after-requires : tie.Need-number-after-requires
 number-after-requires c κs = search needs
 
 returns : tie.Need-returns
-returns c = rw (c .before .number-after .ensures)
+returns c = rw (c .number-after .ensures)
 
 pub passed-spec : {M : Type 1} → statement M
 passed-spec = tie.close (tie.spec number-after-requires returns)
