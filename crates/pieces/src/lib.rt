@@ -34,7 +34,8 @@ pub fn number_after(n: u32) -> u32
     if n < 4294967295 { n + 1 } else { n }
 }
 
-fn least(a: usize, b: usize) -> usize
+// The smaller of the two.
+pub fn least(a: usize, b: usize) -> usize
     ensures { λ r. ⌜ r ≡ min a b ⌝ }
 {
     if a < b { a } else { b }

@@ -156,7 +156,7 @@ fn last(c: Controller, t: Turn, held: Held, end: usize) -> Fed
 pub fn feed(s: Session, piece: &[u8], out: &mut [u8]) -> Fed
     ensures { λ r. ⌜ Feeds s (now (piece .entry)) (now (out .entry)) r (now (out .exit)) ⌝ }
 {
-    let end = turns::least(piece.len(), out.len() / 64);
+    let end = pieces::least(piece.len(), out.len() / 64);
     let held = s.held;
     let g = pieces::gather(held, piece, 0, end);
     let line = g.held;

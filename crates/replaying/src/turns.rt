@@ -1,6 +1,6 @@
 // The loop over a piece's lines, but for the controller's steps: it is given the answer of each, and seeks the next.
 ghost use mathlib.Core.Path.{_≡_};
-ghost use Prim.Native.Nat.{_+_, _≤_, _<_, min};
+ghost use Prim.Native.Nat.{_+_, _≤_, _<_};
 ghost use lib.ListN.{length, replicate};
 ghost use Rattle.lines.specs.Grammar.{lineOf};
 ghost use Rattle.pieces.specs.Feed.{lineIn};
@@ -143,7 +143,7 @@ pub fn seek(piece: &[u8], end: usize, out: &mut [u8], start: Turn) -> Turn
     while t.taken < end {
         let from = t.taken;
         let at = pieces::line_end(piece, from, end);
-        if least(end, piece.len()) <= at {
+        if pieces::least(end, piece.len()) <= at {
             return t;
         }
         let p = lines::parse(&piece[from..at]);
@@ -178,18 +178,12 @@ fn index_after(at: usize, end: usize) -> usize
     end
 }
 
-pub fn least(a: usize, b: usize) -> usize
-    ensures { λ r. ⌜ r ≡ min a b ⌝ }
-{
-    if a < b { a } else { b }
-}
-
 // How many of a room's n bytes an answer's row shows.
 fn sent_size(a: Answer, n: usize) -> usize
     ensures { λ r. ⌜ r ≡ sentSize a n ⌝ }
 {
     match a {
-        Answer::Sent(k) => least(k as usize, n),
+        Answer::Sent(k) => pieces::least(k as usize, n),
         _ => 0,
     }
 }
