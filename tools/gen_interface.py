@@ -26,9 +26,9 @@ FNS={
   told="The size is compared; where it is right the borrow is looked into for the copy that `Controller::lines` reads, and shut again.",
   uses=["use Rattle.rules.specs.Flags.{linesOf}",f"use {spec}.Interface.{{linesAnswer}}",f"use {spec}.CodeLaws.{{lines-right, lines-wrong}}"]),
  "hevrukan_step":dict(params=STEP,locals=["req-ty",Fra.mir(),"tyBool",Ans.mir(),"tyRef erased mut rec-ty","tyRef erased mut byte","sliceTy (tyRef erased mut byte)"],decls=[Con,Req,Cal,Fra,Ans],
-  callees=[("requested",f"{modp}.calls.requested","hevrukan·calls·requested"),("copied",f"{modp}.calls.frame_bytes","hevrukan·calls·frame-bytes"),("step","Rattle.controller.proofs.Controller.step_in_place","controller·Controller·step-in-place"),("number",f"{modp}.answers.number","hevrukan·answers·number")],
+  callees=[("requested",f"{modp}.calls.requested","hevrukan·calls·requested"),("copied",f"{modp}.calls.frame_bytes","hevrukan·calls·frame-bytes"),("step","Rattle.lent.proofs.step","lent·step"),("number",f"{modp}.answers.number","hevrukan·answers·number")],
   says="(c : Controller) (m : ℕ) (zs : List ℕ)",said="c m zs",text="stepEffect h size kind one two bytes room ≡ record { next = c; answer = m; room = zs }",
-  told="A request with an answer of its own returns it, and the record and the room are given up as they were passed; any other is passed on to `Controller::step_in_place`, with the record and the room at their own lifetimes.",
+  told="A request with an answer of its own returns it, and the record and the room are given up as they were passed; any other is passed on to `lent::step`, with the record and the room at their own lifetimes.",
   uses=["use Rattle.controller.specs.Session.{stepOf}","use Rattle.controller.specs.Code.{doneOf, stepFor, roomFor, bytesIn}",f"use {spec}.Interface.{{numberOf, stepEffect}}",f"use {spec}.Code.{{requestOf}}",f"use {spec}.CodeLaws.{{unmade, made}}"]),
 }
 F=FNS[FN]; params=F["params"]; callees=F["callees"]
@@ -264,7 +264,7 @@ else:
         w=Walk(6); w.ctx=list(ctx); return asks(w,toks,args)
     nums=[uint_owned(k,n,n+"-fits") for n,k in params if k in WID]
     ASK=lambda ls:"("+" ∷ ".join([EX[l] for l in ls]+["[]"])+")"
-    extra+=f"""  -- what `step_in_place` says of a request and a frame
+    extra+=f"""  -- what `step` says of a request and a frame
   abbrev Said : Request → FrameBytes → Controller → Answer → List ℕ → Type 0
   Said q′ f c x zs = (c ≡ doneOf (stepOf h (stepFor (q′ .call) (bytesIn f) room)) .next) × (x ≡ doneOf (stepOf h (stepFor (q′ .call) (bytesIn f) room)) .answer) × (zs ≡ roomFor h (q′ .call) room)
 

@@ -163,7 +163,7 @@ asked3=w.text()
 ASK3=lst([tok("room"),tok("piece"),tok("out"),f"‵ ({RoomI('κ-room','γ-room','zs','(length zs)')})","‵ Piece","‵ Out′"])
 # ---- the file
 path=lambda i:" .1"*i+" .0"
-print(f'''-- `replaying::in_place::line_in_place` meets its contract: a walk of its MIR. The record and the room are lent again to `Controller::step_in_place`, each for a lifetime that is made for the call, and come back; the borrow is opened for
+print(f'''-- `replaying::in_place::line_in_place` meets its contract: a walk of its MIR. The record and the room are lent again to `lent::step`, each for a lifetime that is made for the call, and come back; the borrow is opened for
 -- the copy that `Controller::lines` reads, and closed at the same record; the room and the rows' room are passed on to `turns::answered`. All that the proof knows of these functions is that they meet their contracts. Written by tools/gen_line.py.
 -- Assumes nothing.
 use mathlib.Core.Path.{{_≡_, refl, ap, sym, _∙_, subst}}
@@ -218,10 +218,10 @@ use {spec}.TurnLaws.{{steps}}
 use {modp}.Tally.Laws as Tally-row′
 {chr(10).join(d.uses() for d in (Cal,Fra,Ans))}
 use {modp}.Again as Sl
-use Rattle.controller.proofs.Controller.step_in_place as step
-use Rattle.controller.proofs.Controller.step_in_place.Symbol as step-def
-use Rattle.controller.proofs.Controller.step_in_place.Symbol.{{name as #step}}
-use Rattle.controller.proofs.Controller.step_in_place.Met as step-thm
+use Rattle.lent.proofs.step as step
+use Rattle.lent.proofs.step.Symbol as step-def
+use Rattle.lent.proofs.step.Symbol.{{name as #step}}
+use Rattle.lent.proofs.step.Met as step-thm
 use Rattle.controller.proofs.Controller.lines as lines
 use Rattle.controller.proofs.Controller.lines.Symbol as lines-def
 use Rattle.controller.proofs.Controller.lines.Symbol.{{name as #lines}}
@@ -296,7 +296,7 @@ module _ {G} (W : Given 𝓤 H A) {AM} ({" ".join(kap(n) for n in REFS)} : Lft) 
   abbrev Out′ : Fml
   Out′ = MutSlice (named 3) κ-out u8 .own out-ref (s-out ∷ [])
 
-  -- what `step_in_place` says, and what is to be said
+  -- what `step` says, and what is to be said
   abbrev Said : Controller → Answer → List ℕ → Type 0
   Said c x zs = (c ≡ doneOf (stepOf h (stepFor (t .call) (bytesIn (t .frame)) room)) .next) × (x ≡ doneOf (stepOf h (stepFor (t .call) (bytesIn (t .frame)) room)) .answer) × (zs ≡ roomFor h (t .call) room)
 
@@ -323,7 +323,7 @@ module _ {G} (W : Given 𝓤 H A) {AM} ({" ".join(kap(n) for n in REFS)} : Lft) 
       suffices ! _ (ends-at 𝓤 H A this.ended stayed (this.clauses 𝓤 H A at-mem run) W (({tup(kap(n) for n in REFS)}, {tup(q(n) for n in REFS)}, tt, a, at), tt) ({Tur.val("r")}) r (c, (zs, (tt, (tt, (os, (tt, tt)))))) (tt, (l, (tt, (tt, (l′, (tt, tt))))))) $ says ! p $
       {exits}
 
-  -- what `step_in_place`'s triple binds outside, at the lifetimes ν and ν′ and the names δ and δ′, and what it asks
+  -- what `step`'s triple binds outside, at the lifetimes ν and ν′ and the names δ and δ′, and what it asks
   module _ (ν ν′ : ℕ) (δ δ′ : GName) where
     abbrev args : RefT Controller × (Call × (FrameBytes × (RefT (List ℕ) × Unit {{0}})))
     args = (rec δ h, (t .call, (t .frame, (room-ref δ′ room, tt))))
@@ -397,6 +397,6 @@ line-in-place-spec 𝓤 H 𝓜 𝓖 𝓡 =
     entered 𝓤 H (tripleOf 𝓤 H (𝓖 .A) this.signature (this.spec 𝓤 H (𝓖 .A) (𝓜 .mem) (𝓡 .run)))
     (tables 𝓤 H 𝓜 𝓡 code.env .C) (tables 𝓤 H 𝓜 𝓡 code.env .Λ) #this code.function (code.unfolded 𝓤 H 𝓜 𝓡)
     (meets 𝓤 H (𝓖 .A) (givenOf 𝓤 H 𝓜 𝓖) (𝓜 .mem) (𝓡 .run) (tablesOf 𝓤 H 𝓜 (tables 𝓤 H 𝓜 𝓡 code.env))
-    (cited 𝓤 H (Step 𝓤 H (𝓖 .A) (𝓜 .mem) (𝓡 .run)) 𝓜 𝓡 code.env #step step-def.routine code.calls-controller·Controller·step-in-place (step-thm.met 𝓤 H 𝓜 𝓖 𝓡))
+    (cited 𝓤 H (Step 𝓤 H (𝓖 .A) (𝓜 .mem) (𝓡 .run)) 𝓜 𝓡 code.env #step step-def.routine code.calls-lent·step (step-thm.met 𝓤 H 𝓜 𝓖 𝓡))
     (cited 𝓤 H (Lines 𝓤 H (𝓖 .A) (𝓜 .mem) (𝓡 .run)) 𝓜 𝓡 code.env #lines lines-def.routine code.calls-controller·Controller·lines (lines-thm.met 𝓤 H 𝓜 𝓖 𝓡))
     (cited 𝓤 H (Answered 𝓤 H (𝓖 .A) (𝓜 .mem) (𝓡 .run)) 𝓜 𝓡 code.env #answered answered-def.routine code.calls-replaying·turns·answered (answered-thm.met 𝓤 H 𝓜 𝓖 𝓡)))''')

@@ -34,17 +34,8 @@ pub(crate) fn with_bytes(control: Control, n: u8, bytes: [u8; 14], a: Answer) ->
 }
 
 impl Controller {
-    // The record with another control state.
-    pub(crate) fn with_control(self, control: Control) -> Controller
-        ensures { λ r. ⌜ r ≡ record { control = control; rows = self .rows } ⌝ }
-    {
-        let mut next = self;
-        next.control = control;
-        next
-    }
-
     // The record after a change.
-    pub(crate) fn after(self, x: Change) -> Controller
+    pub fn after(self, x: Change) -> Controller
         ensures { λ r. ⌜ r ≡ changed self x .next ⌝ }
     {
         let control = x.control;

@@ -148,7 +148,7 @@ impl Controller {
     }
 
     // A sync of a kind.
-    pub(crate) fn plan_sync(self, k: SyncKind) -> Change
+    pub fn plan_sync(self, k: SyncKind) -> Change
         ensures { λ x. ⌜ changed self x ≡ doneOf (stepOf self (sync k)) ⌝ }
     {
         let c = self.control;
@@ -156,7 +156,7 @@ impl Controller {
     }
 
     // A sync due.
-    pub(crate) fn plan_due(self) -> Change
+    pub fn plan_due(self) -> Change
         ensures { λ x. ⌜ changed self x ≡ doneOf (stepOf self syncDue) ⌝ }
     {
         let c = self.control;
@@ -164,7 +164,7 @@ impl Controller {
     }
 
     // A frame: its verdict and its bytes.
-    pub(crate) fn plan_frame(self, good: bool, f: &[u8]) -> Change
+    pub fn plan_frame(self, good: bool, f: &[u8]) -> Change
         ensures { λ x. ⌜ changed self x ≡ doneOf (stepOf self (frame good (now (f .entry)))) ⌝ }
     {
         let c = self.control;
@@ -176,7 +176,7 @@ impl Controller {
     }
 
     // A fault of the bus.
-    pub(crate) fn plan_fault(self, k: Fault) -> Change
+    pub fn plan_fault(self, k: Fault) -> Change
         ensures { λ x. ⌜ changed self x ≡ doneOf (stepOf self (fault k)) ⌝ }
     {
         let c = self.control;
@@ -184,7 +184,7 @@ impl Controller {
     }
 
     // The alarm timeout.
-    pub(crate) fn plan_timeout(self) -> Change
+    pub fn plan_timeout(self) -> Change
         ensures { λ x. ⌜ changed self x ≡ doneOf (stepOf self timeout) ⌝ }
     {
         let c = self.control;
@@ -192,7 +192,7 @@ impl Controller {
     }
 
     // Slot i.
-    pub(crate) fn plan_slot(self, i: u8, room: &mut [u8]) -> Change
+    pub fn plan_slot(self, i: u8, room: &mut [u8]) -> Change
         ensures { λ x. ⌜ changed self x ≡ doneOf (stepOf self (slot i (now (room .entry)))) ⌝ }
         ensures { λ _. ⌜ now (room .exit) ≡ stepOf self (slot i (now (room .entry))) .room ⌝ }
     {

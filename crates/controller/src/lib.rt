@@ -25,11 +25,11 @@ pub struct Done {
 
 // What a step changes: the control state, and the bytes of one buffer. A place of 16 stands for no buffer, 17 for all of
 // them blank. It is small, so that a step in place writes no more of the record than it changes.
-struct Change {
-    control: Control,
-    place: u8,
-    bytes: [u8; 14],
-    answer: Answer,
+pub struct Change {
+    pub control: Control,
+    pub place: u8,
+    pub bytes: [u8; 14],
+    pub answer: Answer,
 }
 
 // A call or an event as a value; the frame's bytes and the room for a sent frame go beside it.

@@ -99,7 +99,7 @@ impl Controller {
     }
 
     // A reset, whatever the record.
-    pub(crate) fn plan_reset(self) -> Change
+    pub fn plan_reset(self) -> Change
         ensures { λ x. ⌜ changed self x ≡ doneOf (stepOf self reset) ⌝ }
     {
         let fresh = Controller::after_reset();
@@ -143,7 +143,7 @@ impl Controller {
     }
 
     // A register read. It changes nothing.
-    pub(crate) fn plan_read(self, a: u8) -> Change
+    pub fn plan_read(self, a: u8) -> Change
         ensures { λ x. ⌜ changed self x ≡ doneOf (stepOf self (read a)) ⌝ }
     {
         let c = self.control;
@@ -178,7 +178,7 @@ impl Controller {
     }
 
     // A register write.
-    pub(crate) fn plan_write(self, a: u8, v: u8) -> Change
+    pub fn plan_write(self, a: u8, v: u8) -> Change
         ensures { λ x. ⌜ changed self x ≡ doneOf (stepOf self (write a v)) ⌝ }
     {
         let c = self.control;

@@ -1,13 +1,11 @@
 // A call or an event as a value.
 ghost use mathlib.Core.Path.{_≡_};
 ghost use Rattle.controller.specs.Session.{stepOf};
-ghost use Rattle.controller.specs.Code.{doneOf, changed, stepFor, roomFor, bytesIn};
+ghost use Rattle.controller.specs.Code.{doneOf, changed, stepFor, roomFor};
 use crate::Call;
 use crate::Change;
 use crate::Controller;
 use crate::Done;
-use crate::FrameBytes;
-use rules::Answer;
 
 impl Controller {
     // What the call changes. Only a slot looks at the room, and only a frame at the bytes f.
@@ -34,31 +32,5 @@ impl Controller {
         ensures { λ _. ⌜ now (room .exit) ≡ roomFor self call (now (room .entry)) ⌝ }
     {
         self.carried(self.plan(call, f, room))
-    }
-
-    // What the call changes, the frame being a value.
-    pub(crate) fn plan_framed(self, call: Call, f: FrameBytes, room: &mut [u8]) -> Change
-        ensures { λ x. ⌜ changed self x ≡ doneOf (stepOf self (stepFor call (bytesIn f) (now (room .entry)))) ⌝ }
-        ensures { λ _. ⌜ now (room .exit) ≡ roomFor self call (now (room .entry)) ⌝ }
-    {
-        let b = f.bytes;
-        if f.size < 30 {
-            let n = f.size as usize;
-            return self.plan(call, &b[..n], room);
-        }
-        self.plan(call, &b, room)
-    }
-
-    // The step on a lent record, changed in place. A call that touches no buffer's bytes writes the control state alone.
-    pub fn step_in_place(&mut self, call: Call, f: FrameBytes, room: &mut [u8]) -> Answer
-        ensures { λ r. ⌜ (now (self .exit) ≡ doneOf (stepOf (now (self .entry)) (stepFor call (bytesIn f) (now (room .entry)))) .next) × (r ≡ doneOf (stepOf (now (self .entry)) (stepFor call (bytesIn f) (now (room .entry)))) .answer) × (now (room .exit) ≡ roomFor (now (self .entry)) call (now (room .entry))) ⌝ }
-    {
-        let x = (*self).plan_framed(call, f, room);
-        if x.place == 16 {
-            *self = (*self).with_control(x.control);
-        } else {
-            *self = (*self).after(x);
-        }
-        x.answer
     }
 }

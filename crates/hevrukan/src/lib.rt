@@ -67,7 +67,7 @@ pub extern "C" fn hevrukan_step(
         return asked.answer;
     }
     let bytes = calls::frame_bytes(frame);
-    answers::number(c.step_in_place(asked.call, bytes, room))
+    answers::number(lent::step(c, asked.call, bytes, room))
 }
 
 // The five lines, 0 to 31: bit 4 FIFO, 3 receive, 2 sync, 1 XSYNC, 0 general.

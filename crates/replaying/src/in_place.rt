@@ -16,7 +16,7 @@ fn line_in_place(
 ) -> Turn
     ensures { λ r. ⌜ Steps (now (c .entry)) (now (room .entry)) (now (piece .entry)) end (now (out .entry)) t r (now (c .exit)) (now (room .exit)) (now (out .exit)) ⌝ }
 {
-    let a = c.step_in_place(t.call, t.frame, room);
+    let a = lent::step(c, t.call, t.frame, room);
     let irq = (*c).lines();
     turns::answered(room, piece, end, out, t, a, irq)
 }

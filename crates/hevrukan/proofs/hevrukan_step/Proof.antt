@@ -1,4 +1,4 @@
--- `hevrukan::hevrukan_step` meets its contract: a walk of its MIR. A request with an answer of its own returns it, and the record and the room are given up as they were passed; any other is passed on to `Controller::step_in_place`, with the record and the room at their own lifetimes.
+-- `hevrukan::hevrukan_step` meets its contract: a walk of its MIR. A request with an answer of its own returns it, and the record and the room are given up as they were passed; any other is passed on to `lent::step`, with the record and the room at their own lifetimes.
 -- All that the proof knows of the functions called is that they meet their contracts. Written by tools/gen_interface.py.
 -- Assumes nothing.
 use mathlib.Core.Path.{_≡_, refl, ap, subst}
@@ -69,10 +69,10 @@ use Rattle.hevrukan.proofs.calls.frame_bytes as copied
 use Rattle.hevrukan.proofs.calls.frame_bytes.Symbol as copied-def
 use Rattle.hevrukan.proofs.calls.frame_bytes.Symbol.{name as #copied}
 use Rattle.hevrukan.proofs.calls.frame_bytes.Met as copied-thm
-use Rattle.controller.proofs.Controller.step_in_place as step
-use Rattle.controller.proofs.Controller.step_in_place.Symbol as step-def
-use Rattle.controller.proofs.Controller.step_in_place.Symbol.{name as #step}
-use Rattle.controller.proofs.Controller.step_in_place.Met as step-thm
+use Rattle.lent.proofs.step as step
+use Rattle.lent.proofs.step.Symbol as step-def
+use Rattle.lent.proofs.step.Symbol.{name as #step}
+use Rattle.lent.proofs.step.Met as step-thm
 use Rattle.hevrukan.proofs.answers.number as number
 use Rattle.hevrukan.proofs.answers.number.Symbol as number-def
 use Rattle.hevrukan.proofs.answers.number.Symbol.{name as #number}
@@ -177,7 +177,7 @@ module _ {M : Type 1} (𝓤 : URA M) (H : Heap 𝓤) (A : Atoms 𝓤) (W : Given
       nothing ! $ move ! (4 ∷ 0 ∷ []) $ join ! $ move ! (3 ∷ 0 ∷ []) $ join ! $ move ! (2 ∷ 0 ∷ []) $ join ! $ frame ! $
       nothing ! $ move ! (2 ∷ 0 ∷ []) $ fjoin ! $ move ! (2 ∷ 0 ∷ []) $ fjoin ! $ owned ! u32 (Is u32) (uint-makes 𝓤 H A W w32) two _ (refl, two-fits) $ fjoin ! $ owned ! u32 (Is u32) (uint-makes 𝓤 H A W w32) one _ (refl, one-fits) $ fjoin ! $ owned ! u32 (Is u32) (uint-makes 𝓤 H A W w32) kind _ (refl, kind-fits) $ fjoin ! $ owned ! usize (Is usize) (uint-makes 𝓤 H A W w64) size _ (refl, size-fits) $ fjoin ! $ move ! (1 ∷ 0 ∷ []) $ fjoin ! $ frame ! $ owned ! u32 (Is u32) (uint-makes 𝓤 H A W w32) m _ (refl, g) $ done !
 
-  -- what `step_in_place` says of a request and a frame
+  -- what `step` says of a request and a frame
   abbrev Said : Request → FrameBytes → Controller → Answer → List ℕ → Type 0
   Said q′ f c x zs = (c ≡ doneOf (stepOf h (stepFor (q′ .call) (bytesIn f) room)) .next) × (x ≡ doneOf (stepOf h (stepFor (q′ .call) (bytesIn f) room)) .answer) × (zs ≡ roomFor h (q′ .call) room)
 
@@ -314,5 +314,5 @@ hevrukan-step-spec 𝓤 H 𝓜 𝓖 𝓡 =
     (meets 𝓤 H (𝓖 .A) (givenOf 𝓤 H 𝓜 𝓖) (𝓜 .mem) (𝓡 .run) (tablesOf 𝓤 H 𝓜 (tables 𝓤 H 𝓜 𝓡 code.env))
     (cited 𝓤 H (Requested 𝓤 H (𝓖 .A) (𝓜 .mem) (𝓡 .run)) 𝓜 𝓡 code.env #requested requested-def.routine code.calls-hevrukan·calls·requested (requested-thm.met 𝓤 H 𝓜 𝓖 𝓡))
     (cited 𝓤 H (Copied 𝓤 H (𝓖 .A) (𝓜 .mem) (𝓡 .run)) 𝓜 𝓡 code.env #copied copied-def.routine code.calls-hevrukan·calls·frame-bytes (copied-thm.met 𝓤 H 𝓜 𝓖 𝓡))
-    (cited 𝓤 H (Step 𝓤 H (𝓖 .A) (𝓜 .mem) (𝓡 .run)) 𝓜 𝓡 code.env #step step-def.routine code.calls-controller·Controller·step-in-place (step-thm.met 𝓤 H 𝓜 𝓖 𝓡))
+    (cited 𝓤 H (Step 𝓤 H (𝓖 .A) (𝓜 .mem) (𝓡 .run)) 𝓜 𝓡 code.env #step step-def.routine code.calls-lent·step (step-thm.met 𝓤 H 𝓜 𝓖 𝓡))
     (cited 𝓤 H (Number 𝓤 H (𝓖 .A) (𝓜 .mem) (𝓡 .run)) 𝓜 𝓡 code.env #number number-def.routine code.calls-hevrukan·answers·number (number-thm.met 𝓤 H 𝓜 𝓖 𝓡)))

@@ -1,4 +1,4 @@
--- `replaying::in_place::line_in_place` meets its contract: a walk of its MIR. The record and the room are lent again to `Controller::step_in_place`, each for a lifetime that is made for the call, and come back; the borrow is opened for
+-- `replaying::in_place::line_in_place` meets its contract: a walk of its MIR. The record and the room are lent again to `lent::step`, each for a lifetime that is made for the call, and come back; the borrow is opened for
 -- the copy that `Controller::lines` reads, and closed at the same record; the room and the rows' room are passed on to `turns::answered`. All that the proof knows of these functions is that they meet their contracts. Written by tools/gen_line.py.
 -- Assumes nothing.
 use mathlib.Core.Path.{_≡_, refl, ap, sym, _∙_, subst}
@@ -66,10 +66,10 @@ use Rattle.rules.specs.declared.Answer.{Answer}
 use Rattle.rules.proofs.Answer as Answer-row
 use Rattle.rules.proofs.Answer.Laws as Answer-row′
 use Rattle.replaying.proofs.Again as Sl
-use Rattle.controller.proofs.Controller.step_in_place as step
-use Rattle.controller.proofs.Controller.step_in_place.Symbol as step-def
-use Rattle.controller.proofs.Controller.step_in_place.Symbol.{name as #step}
-use Rattle.controller.proofs.Controller.step_in_place.Met as step-thm
+use Rattle.lent.proofs.step as step
+use Rattle.lent.proofs.step.Symbol as step-def
+use Rattle.lent.proofs.step.Symbol.{name as #step}
+use Rattle.lent.proofs.step.Met as step-thm
 use Rattle.controller.proofs.Controller.lines as lines
 use Rattle.controller.proofs.Controller.lines.Symbol as lines-def
 use Rattle.controller.proofs.Controller.lines.Symbol.{name as #lines}
@@ -168,7 +168,7 @@ module _ {M : Type 1} (𝓤 : URA M) (H : Heap 𝓤) (A : Atoms 𝓤) (W : Given
   abbrev Out′ : Fml
   Out′ = MutSlice (named 3) κ-out u8 .own out-ref (s-out ∷ [])
 
-  -- what `step_in_place` says, and what is to be said
+  -- what `step` says, and what is to be said
   abbrev Said : Controller → Answer → List ℕ → Type 0
   Said c x zs = (c ≡ doneOf (stepOf h (stepFor (t .call) (bytesIn (t .frame)) room)) .next) × (x ≡ doneOf (stepOf h (stepFor (t .call) (bytesIn (t .frame)) room)) .answer) × (zs ≡ roomFor h (t .call) room)
 
@@ -196,7 +196,7 @@ module _ {M : Type 1} (𝓤 : URA M) (H : Heap 𝓤) (A : Atoms 𝓤) (W : Given
       move ! (2 ∷ 3 ∷ []) $ join ! $ frame ! $
       nothing ! $ owned ! U.the-row (Is U.the-row) (LL.makes U.the-type U′.the-plain 𝓤 H A) t _ t-is $ fjoin ! $ move ! (4 ∷ 0 ∷ []) $ fjoin ! $ owned ! usize (Is usize) (uint-makes 𝓤 H A W w64) end _ (refl, end-fits) $ fjoin ! $ move ! (4 ∷ 0 ∷ []) $ fjoin ! $ move ! (3 ∷ 0 ∷ []) $ fjoin ! $ move ! (1 ∷ 2 ∷ 0 ∷ []) $ feqI ! (List Val) (vptr b o ∷ []) (vptr b o ∷ []) refl $ fjoin3 ! $ fjoin ! $ frame ! $ owned ! U.the-row (Is U.the-row) (LL.makes U.the-type U′.the-plain 𝓤 H A) r _ g $ done !
 
-  -- what `step_in_place`'s triple binds outside, at the lifetimes ν and ν′ and the names δ and δ′, and what it asks
+  -- what `step`'s triple binds outside, at the lifetimes ν and ν′ and the names δ and δ′, and what it asks
   module _ (ν ν′ : ℕ) (δ δ′ : GName) where
     abbrev args : RefT Controller × (Call × (FrameBytes × (RefT (List ℕ) × Unit {0})))
     args = (rec δ h, (t .call, (t .frame, (room-ref δ′ room, tt))))
@@ -327,6 +327,6 @@ line-in-place-spec 𝓤 H 𝓜 𝓖 𝓡 =
     entered 𝓤 H (tripleOf 𝓤 H (𝓖 .A) this.signature (this.spec 𝓤 H (𝓖 .A) (𝓜 .mem) (𝓡 .run)))
     (tables 𝓤 H 𝓜 𝓡 code.env .C) (tables 𝓤 H 𝓜 𝓡 code.env .Λ) #this code.function (code.unfolded 𝓤 H 𝓜 𝓡)
     (meets 𝓤 H (𝓖 .A) (givenOf 𝓤 H 𝓜 𝓖) (𝓜 .mem) (𝓡 .run) (tablesOf 𝓤 H 𝓜 (tables 𝓤 H 𝓜 𝓡 code.env))
-    (cited 𝓤 H (Step 𝓤 H (𝓖 .A) (𝓜 .mem) (𝓡 .run)) 𝓜 𝓡 code.env #step step-def.routine code.calls-controller·Controller·step-in-place (step-thm.met 𝓤 H 𝓜 𝓖 𝓡))
+    (cited 𝓤 H (Step 𝓤 H (𝓖 .A) (𝓜 .mem) (𝓡 .run)) 𝓜 𝓡 code.env #step step-def.routine code.calls-lent·step (step-thm.met 𝓤 H 𝓜 𝓖 𝓡))
     (cited 𝓤 H (Lines 𝓤 H (𝓖 .A) (𝓜 .mem) (𝓡 .run)) 𝓜 𝓡 code.env #lines lines-def.routine code.calls-controller·Controller·lines (lines-thm.met 𝓤 H 𝓜 𝓖 𝓡))
     (cited 𝓤 H (Answered 𝓤 H (𝓖 .A) (𝓜 .mem) (𝓡 .run)) 𝓜 𝓡 code.env #answered answered-def.routine code.calls-replaying·turns·answered (answered-thm.met 𝓤 H 𝓜 𝓖 𝓡)))
