@@ -2,13 +2,14 @@
 """Write the walks of crate lent: usage: gen_lent.py carry|step > proofs/carry|step/Proof.antt, then rt fmt."""
 import os,sys
 sys.path.insert(0,os.path.dirname(os.path.abspath(__file__)))
-from walk import Walk,Decl,lst,tup,par,close,WID,G,AM
+from walk import Walk,Decl,lst,tup,par,G,AM
 crate="lent"; modp=f"Rattle.{crate}.proofs"; spec=f"Rattle.{crate}.specs"; FN=sys.argv[1]
 Con=Decl("Controller","T","struct","controller",False)
 Cha=Decl("Change","S","struct","controller",False)
 Cal=Decl("Call","Call-row","enum","controller",False)
 Fra=Decl("FrameBytes","Frame-row","struct","controller",False)
 Ctl=Decl("Control","Control-row","struct","rules",False)
+Row=Decl("Contents","Row","struct","contents",False)
 Ans=Decl("Answer","Answer-row","enum","rules",False)
 path=lambda i:" .1"*i+" .0"
 # ---- what both walks share
@@ -161,12 +162,19 @@ def enters(w,FV,N,typ):
     w.emit("pass0 ! $\n")
 
 def carry():
-    after=Callee("after","controller","Controller.after"); LT=[Ans.mir(),"tyRef (named 0) mut rec-ty","out-ty","tyBool",Con.mir(),Con.mir()]; N=len(LT)
+    after=Callee("after","controller","Controller.after")
+    LT=[Ans.mir(),"tyRef (named 0) mut rec-ty","out-ty","tyInt w64","tyBool",Row.mir(),"tyInt w64","tyPtr","tyPtr","tyBool",Con.mir(),Con.mir()]; N=len(LT)
     CELLS=[f"_{i}" for i in range(N)]; DIES=[f"d{i}" for i in range(N)]; ALL=CELLS+DIES; open_=["cell","obor","obs","auth"]
     val={1:"vptr b o",2:Cha.val("x")}; lemmas=[]
     def lemma(com,name,pre,lhs,code,q,start,body):
         lemmas.append(f"      {com}\n      {name} : {pre}Sq W {items(*start)} (runs C Λ En {code} ({q}))\n      {lhs} =\n          {body.strip()}\n")
-    RET="atRet En Post"
+    RET="atRet En Post"; WAS=Con.is_("h")+" → "
+    LT16="Holds (ltb (x .place) 16)"; AT16="Holds (eqb (x .place) 16)"
+    FAT=lambda c:f"‵ (fat fullShare T′.mir b o (mach {par(c)}))"
+    def raws(c): return f"use1 W ({CELL(c)}) (W .laws .at-raw fullShare T′.mir b o (mach {par(c)})) $ "
+    def stores(last=False):
+        """`(*c).control = x.control`, the cell being at the record's own type"""
+        w.emit(f"assigns{'-last' if last else ''} ! (of-opd ! {w.part(2,0)}) (from ! (hop ! (look ! {w.cell(1)} refl) (fld ! refl (stop !)))) (store-in ! {w.at('cell')} (sub ! 0 refl (whole !)) {Ctl.typed('x .control','control-is')}) $ ")
     # ---- the start
     w=Walk(8); w.ctx=["toks","owns"]
     w.emit("split ! $ "); w.ctx=["tok","true","owns"]; w.to(["owns"]); w.emit("fsplit ! $ move ! (1 ∷ []) $ "); w.give(1,["owns","rec"]); w.emit("fsplit ! $ drop ! $ "); w.keep(["rec","tok"]); w.nl()
@@ -175,50 +183,84 @@ def carry():
     # ---- the test
     w.ind=10; start=(list(w.ctx),LT,dict(val),{"rec":"‵ (MutRef (named 0) κ T.the-row .own (rec h) (vptr b o ∷ []))","tok":TOK})
     opens(w); w.emit("drop ! $\n"); w.give(1,[])
-    w.assign(f"(bin ! {w.part(2,1)} (lit ! tt) tt)",3,"(tt, tt)"); w.keep(open_+ALL)
-    w.emit(f"first ! $ branches ! {w.load(3)}\n(λ t. arm-1 was t)\n(λ t. arm-2 was t)")
+    w.assign(f"(bin ! {w.part(2,1)} (lit ! tt) tt)",4,"(tt, tt)"); w.keep(open_+ALL)
+    w.emit(f"first ! $ branches ! {w.load(4)}\n(λ t. placing was t)\n(λ t. other was t)")
     lemma("-- the borrow is opened, and the place is tested","opened","","opened","pieces.t-1",RET,start,w.text())
-    # ---- the control state alone
-    val2={**val,3:"y3"}; base=list(w.ctx); start=(base,LT,val2,OPENED)
-    w.emit("use1 W (‵ (fat fullShare T′.mir b o (mach h))) (W .laws .raw-at fullShare T′.mir b o (mach h)) $\n")
-    w.emit(f"assigns-last ! (of-opd ! {w.part(2,0)}) (from ! (hop ! (look ! {w.cell(1)} refl) (fld ! refl (stop !)))) (store-in ! {w.at('cell')} (sub ! 0 refl (whole !)) {Ctl.typed('x .control','control-is')}) $ exec ! C Λ En pieces.t-3 ({RET}) $\n")
-    w.emit(f"use1 W ({CELL('ruled')}) (W .laws .at-raw fullShare T′.mir b o (mach ruled)) $ answered ruled (unplaced h x t) (ruled-is was)")
-    lemma("-- the control state is stored","arm-1",us([3])+"→ "+Con.is_("h")+" → Holds (eqb (x .place) 16) → ","arm-1 was t","code-1","anyQ Next",start,w.text())
-    # ---- any other change
-    w.ctx=list(base); copies(w,5)
+    # ---- one buffer's bytes
+    val2={**val,4:"y4"}; base=list(w.ctx); start=(base,LT,val2,OPENED)
+    w.emit("use1 W ("+FAT("h")+") (W .laws .raw-at fullShare T′.mir b o (mach h)) $\n")
+    w.assign(f"(un ! {w.part(2,1)} (record {{ fits = place-fits t }}))",3,"(tt, record { fits = place-fits t })")
+    stores(); w.nl()
+    w.assign(f"(agg ! {w.ops([w.part(2,2)])})",5,Row.typed("row","row-is"))
+    w.assign(f"(bin ! {w.load(3)} (lit ! tt) (record {{ fits = byte-fits t }}))",6,"(tt, record { fits = byte-fits t })")
+    w.assign(f"(addr ! (from ! (hop ! (look ! {w.cell(1)} refl) (fld ! refl (stop !)))))",7,"(tt, tt)")
+    w.assign(f"(bin ! {w.load(7)} {w.load(6)} tt)",8,"(tt, tt)")
+    w.emit(f"placed-there t was")
+    mid=dict(val2); mid.update({3:"y3",5:Row.val("row"),6:"y6",7:"y7",8:"vptr b (x .place * 14 + (o + at-rows))"})
+    lemma("-- the control state is stored, and the place of the buffer's bytes is had","placing",us([4])+"→ "+WAS+LT16+" → ","placing was t","code-placing","anyQ Next",start,w.text())
+    start=(base,LT,mid,{**OPENED,"cell":FAT("ruled")}); w.ctx=list(base)
+    w.emit(f"rewrite ! {w.cell(8)} (λ (m : ℕ). ‵ (fat fullShare tyPtr l8 0 (vptr b m))) (sym (place-is 14 (o + at-rows) (x .place))) refl $\n")
+    w.emit(f"assigns-last ! (of-opd ! {w.load(5)}) (from ! (hop ! (look ! {w.cell(8)} refl) (stop !))) (store-in ! {w.at('cell')} (elem ! (values (h .rows)) (x .place) ({Row.val('row')}) (in-rows was t) (sixteen-values was) (sub ! 1 refl (whole !))) {Row.typed('row','row-is')}) $ exec ! C Λ En pieces.t-3 ({RET}) $\n")
+    w.emit(f"rewrite ! {w.at('cell')} (λ (us : List Val). ‵ (fat fullShare T′.mir b o (vstruct (vcons ({Ctl.val('x .control')}) (vcons (arrayVal us) vnil))))) values-set refl $\n")
+    w.emit(raws("stored")+"".join(f"forget ! {w.cell(k)} refl $ " for k in (3,5,6,7,8))+"answered stored (stored-so t) (stored-is was)")
+    lemma("-- the bytes are stored there","placed-there",us([3,4,6,7])+"→ "+LT16+" → "+WAS,"placed-there t was","code-placed","anyQ Next",start,w.text())
+    # ---- no buffer's bytes, or all
+    start=(base,LT,val2,OPENED); w.ctx=list(base)
+    w.assign(f"(bin ! {w.part(2,1)} (lit ! tt) tt)",9,"(tt, tt)")
+    w.emit(f"branches ! {w.load(9)}\n(λ t. ruling was t)\n(λ t. changing was t)")
+    lemma("-- the second test","other",us([4])+"→ "+WAS+f"Holds (not (ltb (x .place) 16)) → ","other was n","code-other","anyQ Next",start,w.text())
+    val3={**val2,9:"y9"}; start=(base,LT,val3,OPENED)
+    w.ctx=list(base); w.emit("use1 W ("+FAT("h")+") (W .laws .raw-at fullShare T′.mir b o (mach h)) $\n"); stores(True); w.emit(f"exec ! C Λ En pieces.t-3 ({RET}) $\n")
+    w.emit(raws("ruled")+f"forget ! {w.cell(9)} refl $ answered ruled (unplaced h x t) (ruled-is was)")
+    lemma("-- the control state is stored","ruling",us([4,9])+"→ "+WAS+AT16+" → ","ruling was t","code-ruling","anyQ Next",start,w.text())
+    w.ctx=list(base); copies(w,11)
     w.emit(f"use0 W (raw ({after.at()} .pre to)) (asked was) $\n"); w.give(0,["pre"])
-    called(w,after,"to","args",[w.load(5),w.load(2)],"Controller","c","u","tt","‵ ftrue","T.the-row","c ≡ changed h x .next","e")
+    called(w,after,"to","args",[w.load(11),w.load(2)],"Controller","c","u","tt","‵ ftrue","T.the-row","c ≡ changed h x .next","e")
     w.emit("drop ! $ split ! $ drop ! $\n"); w.give(2,["own"])
     w.emit(Con.peeks("c","(u ∷ [])")+"(λ now-is. drop ! $\n"); w.give(1,[])
-    w.land(4,LT[4],Con.typed("c","now-is"),Con.same("c","now-is"))
-    w.emit(f"assigns-last ! (of-opd ! {w.load(4)}) (from ! (hop ! (look ! {w.cell(1)} refl) (stop !))) (store-raw ! {w.at('cell')} refl {Con.typed('c','(same-is c _ now-is)')}) $ exec ! C Λ En pieces.t-3 ({RET}) $\n")
-    w.emit(f"forget ! {w.cell(4)} refl $ forget ! {w.cell(5)} refl $ answered c e (same-is c _ now-is)")
-    lemma("-- the record is copied out, changed, and stored","arm-2",us([3])+"→ "+Con.is_("h")+" → Holds (not (eqb (x .place) 16)) → ","arm-2 was t","code-2","anyQ Next",start,w.text())
+    w.land(10,LT[10],Con.typed("c","now-is"),Con.same("c","now-is"))
+    w.emit(f"assigns-last ! (of-opd ! {w.load(10)}) (from ! (hop ! (look ! {w.cell(1)} refl) (stop !))) (store-raw ! {w.at('cell')} refl {Con.typed('c','(same-is c _ now-is)')}) $ exec ! C Λ En pieces.t-3 ({RET}) $\n")
+    w.emit("".join(f"forget ! {w.cell(k)} refl $ " for k in (9,10,11))+"answered c e (same-is c _ now-is)")
+    lemma("-- the record is copied out, changed, and stored","changing",us([4,9])+"→ "+WAS+f"Holds (not (eqb (x .place) 16)) → ","changing was t","code-changing","anyQ Next",start,w.text())
     # ---- the answer
     w.ctx=list(base); start=(base,LT,val2,{**OPENED,"cell":CELL("c")})
     w.assign(f"(of-opd ! {w.part(2,3)})",0,Ans.typed("x .answer","answer-is"))
     w.emit(Con.owned("c","now-is")); w.give(0,["own"]); w.to(["cell","own","obor","obs","auth"]); w.emit("closes ! tt T.the-row c (mach c ∷ []) b o $\n"); w.give(5,["obs","bor","tok"])
     end=["obs","bor","tok"]; w.to(end+ALL); w.emit("left c e")
-    lemma("-- the answer, and the borrow's end at the record c","answered",us([3])+"(c : Controller) → c ≡ changed h x .next → "+Con.is_("c")+" → ","answered c e now-is","pieces.t-3",RET,start,w.text())
+    lemma("-- the answer, and the borrow's end at the record c","answered",us([4])+"(c : Controller) → c ≡ changed h x .next → "+Con.is_("c")+" → ","answered c e now-is","pieces.t-3",RET,start,w.text())
     # ---- the return
-    start=(list(w.ctx),LT,{0:Ans.val("x .answer"),1:"y1",2:"y2",3:"y3"},{"obs":OBS("c"),"bor":BOR,"tok":TOK})
-    w.emit(f"returns ! (look ! {w.cell(0)} refl) $ "); w.free(N,range(4)); w.keep(end); w.emit("by ! (exits c e)")
-    lemma("-- the `return`","left",us([1,2,3])+"(c : Controller) → c ≡ changed h x .next → ","left c e","pieces.t-4",RET,start,w.text())
+    start=(list(w.ctx),LT,{0:Ans.val("x .answer"),1:"y1",2:"y2",4:"y4"},{"obs":OBS("c"),"bor":BOR,"tok":TOK})
+    w.emit(f"returns ! (look ! {w.cell(0)} refl) $ "); w.free(N,[0,1,2,4]); w.keep(end); w.emit("by ! (exits c e)")
+    lemma("-- the `return`","left",us([1,2,4])+"(c : Controller) → c ≡ changed h x .next → ","left c e","pieces.t-4",RET,start,w.text())
     # ---- what is asked, and what is had at exit
     w=Walk(6); w.ctx=list(end)
     w.emit("nothing ! $ "); w.give(0,["t"]); w.to(["tok","t"]); w.emit("join ! $ frame ! $\n"); w.give(2,[])
     w.emit("nothing ! $ "+Cha.owned("x","x-is")+"fjoin ! $ "); w.give(0,["X"]); w.to(["obs","bor","X"])
     w.emit("feqI ! (List Val) (vptr b o ∷ []) (vptr b o ∷ []) refl $ fjoin3 ! $ fjoin ! $ frame ! $ "+Ans.owned("x .answer","answer-is")+"done !"); exits=w.text()
     asked="nothing ! $ nothing ! $ "+Cha.owned("x","x-is")+"fjoin ! $ "+Con.owned("h","was")+"fjoin ! $ move ! (1 ∷ 0 ∷ []) $ join ! $ nothing ! $ move ! (1 ∷ 0 ∷ []) $ join ! $ done !"
-    dc="placeᴹ 1 (deref T′.mir ∷ [])"
+    dc="placeᴹ 1 (deref T′.mir ∷ [])"; x_=lambda k:f"(copyᴹ (placeᴹ 2 (fieldᴹ {k} ∷ [])))"; cp=lambda k:f"(copyᴹ (placeᴹ {k} []))"
     bound=f"(((κ, tt), (q, tt), tt, a, at), tt)"
-    print(f"""-- `lent::carry` meets its contract: a walk of its MIR. The borrow is opened, and the control state is stored behind it; or the record is copied out, `Controller::after` changes it, and it is stored over the old one. The borrow is closed at the
--- record that is there. All that the proof knows of `after` is that it meets its contract. Written by tools/gen_lent.py.
+    TUP=f"LL.tuple-val {Row.a}.the-type {Row.a}′.the-laws"
+    print(f"""-- `lent::carry` meets its contract: a walk of its MIR. The borrow is opened, and the control state is stored behind it, and the buffer's bytes where one buffer's change; or the record is copied out, `Controller::after` changes it, and it is
+-- stored over the old one. The borrow is closed at the record that is there. All that the proof knows of `after` is that it meets its contract. Written by tools/gen_lent.py.
 {HEAD}
-use Rattle.contents.specs.declared.Contents.{{Contents}}
+use Prim.Native.Nat.{{_+_, _*_}}
+use native.Mathlib.Omega.{{arith}}
+use mathlib.Core.List.{{map}}
+use lib.Dec.{{ltb, ltb→lt}}
+use lib.ListN.{{set, length-map}}
+use mir.Syntax.{{tyPtr, cond as condᴹ, op1, op2, cast, unsigned, mul, offset, eq, int as intᴹ}}
+use mir.Val.{{vstruct, vcons, vnil}}
+use prog.Memory.{{size}}
+use types.Run.{{un}}
+use denote.Index.{{place-is}}
+use denote.Array.{{Array, arrayVal}}
+use denote.Struct.Struct.{{Struct}}
+use denote.Struct.Declared.{{shape}}
 use Rattle.controller.specs.Code.{{changed}}
-use Rattle.controller.specs.CodeLaws.{{placed-none}}
-{chr(10).join(d.uses() for d in (Con,Cha,Ctl,Ans))}
+use Rattle.controller.specs.CodeLaws.{{placed-none, placed-one}}
+{chr(10).join(d.uses() for d in (Con,Cha,Ctl,Row,Ans))}
+use {modp}.Element.{{elem, map-set, array-set}}
 {after.uses()}
 {THIS}
 
@@ -231,16 +273,33 @@ stayed = (stay-ref (0 ∷ []) tt (plain (λ _. T.the-row)), (stay-none (λ _. S.
 -- the contract that the proof cites
 {after.contract()}
 {OUT_TY}
+-- where the buffers' bytes begin in a record
+abbrev at-rows : ℕ
+at-rows = size {Ctl.mir()}
+
+-- the machine values of the buffers' bytes
+abbrev values : List Contents → List Val
+values rows = map ({TUP}) (map ({Row.a}.the-type .to) rows)
+
 -- a change at place 16 is one of the control state alone
-unplaced : (c : Controller) (x : Change) → Holds (eqb (x .place) 16) → record {{ control = x .control; rows = c .rows }} ≡ changed c x .next
+unplaced : (c : Controller) (x : Change) → {AT16} → record {{ control = x .control; rows = c .rows }} ≡ changed c x .next
 unplaced c x t = ap (λ (rows : List Contents). record {{ control = x .control; rows = rows }}) (sym (placed-none (c .rows) (x .place) (x .bytes) (eqb→eq (x .place) 16 t)))
 
--- the code of the two arms
-abbrev code-1 : Bodyᴹ
-code-1 = assignᴹ (placeᴹ 1 (deref T′.mir ∷ fieldᴹ 0 ∷ [])) (rvOpd (copyᴹ (placeᴹ 2 (fieldᴹ 0 ∷ []))))
+-- the code of the arms
+abbrev code-ruling : Bodyᴹ
+code-ruling = assignᴹ (placeᴹ 1 (deref T′.mir ∷ fieldᴹ 0 ∷ [])) (rvOpd {x_(0)})
 
-abbrev code-2 : Bodyᴹ
-code-2 = seqᴹ (assignᴹ (placeᴹ 5 []) (rvOpd (copyᴹ ({dc})))) (seqᴹ (callᴹ #after (copyᴹ (placeᴹ 5 []) ∷ copyᴹ (placeᴹ 2 []) ∷ []) (placeᴹ 4 [])) (assignᴹ ({dc}) (rvOpd (copyᴹ (placeᴹ 4 [])))))
+abbrev code-placed : Bodyᴹ
+code-placed = assignᴹ (placeᴹ 8 (deref {Row.mir()} ∷ [])) (rvOpd {cp(5)})
+
+abbrev code-placing : Bodyᴹ
+code-placing = seqᴹ (assignᴹ (placeᴹ 3 []) (op1 (cast unsigned unsigned w64) {x_(1)})) (seqᴹ code-ruling (seqᴹ (assignᴹ (placeᴹ 5 []) (aggregate ({x_(2)} ∷ []))) (seqᴹ (assignᴹ (placeᴹ 6 []) (op2 (mul unsigned) {cp(3)} (intᴹ w64 14))) (seqᴹ (assignᴹ (placeᴹ 7 []) (addrOf (placeᴹ 1 (deref T′.mir ∷ fieldᴹ 1 ∷ [])))) (seqᴹ (assignᴹ (placeᴹ 8 []) (op2 offset {cp(7)} {cp(6)})) code-placed)))))
+
+abbrev code-changing : Bodyᴹ
+code-changing = seqᴹ (assignᴹ (placeᴹ 11 []) (rvOpd (copyᴹ ({dc})))) (seqᴹ (callᴹ #after ({cp(11)} ∷ {cp(2)} ∷ []) (placeᴹ 10 [])) (assignᴹ ({dc}) (rvOpd {cp(10)})))
+
+abbrev code-other : Bodyᴹ
+code-other = seqᴹ (assignᴹ (placeᴹ 9 []) (op2 eq {x_(1)} (intᴹ w8 16))) (condᴹ {cp(9)} code-ruling code-changing)
 
 module _ {G} (W : Given 𝓤 H A) {AM} (κ : Lft) (q : Share) (b o : ℕ) (γ : GName) (h : Controller) (x : Change) (x-is : {Cha.is_("x")}) where
   abbrev rec : Controller → RefT Controller
@@ -262,12 +321,45 @@ module _ {G} (W : Given 𝓤 H A) {AM} (κ : Lft) (q : Share) (b o : ℕ) (γ : 
   answer-is : {Ans.is_("x .answer")}
   answer-is = LL.owed S.the-type S′.the-laws x _ x-is{path(3)}
 
+  place-fits : {LT16} → x .place < 2 ^ 64
+  place-fits t = let n = ltb→lt (x .place) 16 t in omega arith
+
+  byte-fits : {LT16} → x .place * 14 < 2 ^ 64
+  byte-fits t = let n = ltb→lt (x .place) 16 t in omega arith
+
+  -- the buffer's bytes as they are after the change
+  abbrev row : Contents
+  row = record {{ bytes = x .bytes }}
+
+  row-is : {Row.is_("row")}
+  row-is = LL.owes {Row.a}.the-type {Row.a}′.the-laws row (LL.owed S.the-type S′.the-laws x _ x-is{path(2)}, tt)
+
   -- the record with the change's control state
   abbrev ruled : Controller
   ruled = record {{ control = x .control; rows = h .rows }}
 
   ruled-is : {Con.is_("h")} → {Con.is_("ruled")}
   ruled-is was = LL.owes T.the-type T′.the-laws ruled (control-is, LL.owed T.the-type T′.the-laws h _ was .1)
+
+  -- the same with the buffer's bytes
+  abbrev stored : Controller
+  stored = record {{ control = x .control; rows = set (h .rows) (x .place) row }}
+
+  stored-so : {LT16} → stored ≡ changed h x .next
+  stored-so t = ap (λ (rows : List Contents). record {{ control = x .control; rows = rows }}) (sym (placed-one (h .rows) (x .place) (x .bytes) (ltb→lt (x .place) 16 t)))
+
+  values-set : set (values (h .rows)) (x .place) ({Row.val("row")}) ≡ values (set (h .rows) (x .place) row)
+  values-set = map-set ({TUP}) (map ({Row.a}.the-type .to) (h .rows)) (x .place) ({Row.a}.the-type .to row) ∙ ap (map ({TUP})) (map-set ({Row.a}.the-type .to) (h .rows) (x .place) row)
+
+  stored-is : {Con.is_("h")} → {Con.is_("stored")}
+  stored-is was = LL.owes T.the-type T′.the-laws stored (control-is, (subst (λ (ys : List _). Is (Array (Struct (shape {Row.a}.the-type)) 16) ys (arrayVal (map ({TUP}) ys) ∷ [])) (map-set ({Row.a}.the-type .to) (h .rows) (x .place) row)
+      (array-set (Struct (shape {Row.a}.the-type)) ({TUP}) (LL.tuple-tells {Row.a}.the-type {Row.a}′.the-laws) 16 (map ({Row.a}.the-type .to) (h .rows)) _ (x .place) ({Row.a}.the-type .to row) (LL.owed T.the-type T′.the-laws h _ was .1 .0) row-is), tt))
+
+  sixteen-values : {Con.is_("h")} → length (values (h .rows)) ≡ 16
+  sixteen-values was = length-map (map ({Row.a}.the-type .to) (h .rows)) ({TUP}) ∙ LL.owed T.the-type T′.the-laws h _ was .1 .0 .1 .0 .1
+
+  in-rows : {Con.is_("h")} → {LT16} → x .place < length (values (h .rows))
+  in-rows was t = subst (λ (n : ℕ). x .place < n) (sym (sixteen-values was)) (ltb→lt (x .place) 16 t)
 
   -- what is had at exit
   abbrev Had : Controller → List (Item 𝓤)
@@ -296,7 +388,9 @@ module _ {G} (W : Given 𝓤 H A) {AM} (κ : Lft) (q : Share) (b o : ℕ) (γ : 
       abbrev Next : Out → SProp 𝓤
       Next = afterSeq 𝓤 H (Wp 𝓤 H C Λ En pieces.t-3 (atReturn 𝓤 H En Post)) (atReturn 𝓤 H En Post)
 """)
-    print("\n".join(reversed(lemmas)))
+    order=["left","answered","changing","ruling","other","placed-there","placing","opened"]
+    byname={l.split("\n")[1].split(" : ")[0].strip():l for l in lemmas}
+    print("\n".join(byname[n] for n in order))
     print(f"""    walk : ent 𝓤 (onEntry 𝓤 H A this.signature (κ, tt) (q, tt) a at) (WpFn 𝓤 H C Λ code.function {FV} Post)
     walk =
         qed W (({TOK} ⊛ ‵ ftrue) ∷ ‵ (owns (MutRef (named 0) κ T.the-row ∷ S.the-row ∷ []) a at) ∷ []) ∵ {walk}
@@ -305,20 +399,50 @@ module _ {G} (W : Given 𝓤 H A) {AM} (κ : Lft) (q : Share) (b o : ℕ) (γ : 
       ["(κs .0) (qs .0) (a .0 .ptr .0) (a .0 .ptr .1) (a .0 .name) (a .0 .now) (a .1 .0) (are .1 .0) C Λ fm known-after"],
       ["goes-ref 𝓤 H A W 1 0 tt (plain (λ _. T.the-row))","goes-none 𝓤 H A W 1 (λ _. S.the-row) yes (λ κs x f. refl)"]))
 
+class Arm:
+    """an arm of the match: its variant, the variables of its pattern, the function that it calls, and its step"""
+    def __init__(self,con,vars,home,p,step,frame=False,room=False):
+        self.con=con; self.low=p.split(".")[-1].replace("plan_",""); self.vars=vars; self.fn=Callee(self.low+"s",home,p); self.step=step; self.frame=frame; self.room=room; self.reads=con=="Read"
+    def names(self): return [n for n,k in self.vars]
+    def pat(self): return par(" ".join([self.con]+self.names()))
+    def binders(self): return "".join(f"({n} : {den(k)}) " for n,k in self.vars)
+    def facts(self): return "".join(fact(n,k)+" → " for n,k in self.vars if fact(n,k))
+    def given(self): return [n+("-fits" if k=="u8" else "-is") for n,k in self.vars if k!="bool"]
+    def args(self): return par(" ".join(["args-"+self.low]+self.names())) if self.vars else "args-"+self.low
+    def to(self): return par(" ".join(["to-"+self.low]+self.names())) if self.vars else "to-"+self.low
+den=lambda k:{"u8":"ℕ","bool":"Bool"}[k] if isinstance(k,str) else k.den
+fact=lambda n,k:f"{n} < 2 ^ 8" if k=="u8" else None if k=="bool" else k.is_(n)
+value=lambda n,k:f"vint w8 {n}" if k=="u8" else f"vbool {n}" if k=="bool" else k.val(n)
+typed=lambda n,k,p:f"(tt, record {{ fits = {p} }})" if k=="u8" else "(tt, tt)" if k=="bool" else k.typed(n,p)
+owned=lambda n,k:(f"owned ! u8 (Is u8) (uint-makes 𝓤 H A W w8) {n} _ (refl, {n}-fits) $ " if k=="u8" else f"owned ! boolean (Is boolean) (bool-makes 𝓤 H A W) {n} _ refl $ " if k=="bool" else k.owned(n,n+"-is"))+"fjoin ! $ "
 def step():
-    reads=Callee("reads",crate,"read"); writes=Callee("writes","controller","Controller.plan_write"); framed=Callee("framed",crate,"framed"); planned=Callee("planned",crate,"planned"); carries=Callee("carries",crate,"carry")
-    CS=[reads,writes,framed,planned,carries]
-    byte="tyInt w8"; ref="tyRef erased mut rec-ty"; slot="sliceTy (tyRef (named 1) mut (tyInt w8))"
-    LT=[Ans.mir(),"tyRef (named 0) mut rec-ty",Cal.mir(),Fra.mir(),slot,byte,byte,byte,"out-ty","tyBool","out-ty","out-ty",Ans.mir(),Con.mir(),Con.mir(),ref,Con.mir(),ref,Con.mir(),"tyRef erased mut (tyInt w8)","sliceTy (tyRef erased mut (tyInt w8))",ref]; N=len(LT)
+    Syn=Decl("SyncKind","Sync-row","enum","rules",False); Syn.den="SyncKind"; Fau=Decl("Fault","Fault-row","enum","rules",False); Fau.den="FaultKind"
+    con="controller"; plan=lambda x:"Controller.plan_"+x
+    ARMS=[Arm("Reset",[],con,plan("reset"),"reset"),Arm("Read",[("n","u8")],crate,"read","read n"),Arm("Write",[("n","u8"),("u","u8")],con,plan("write"),"write n u"),Arm("Sync",[("k",Syn)],con,plan("sync"),"sync k"),Arm("SyncDue",[],con,plan("due"),"syncDue"),
+      Arm("Slot",[("n","u8")],con,plan("slot"),"slot n room",room=True),Arm("Frame",[("good","bool")],crate,"framed","frameStep good (bytesIn f)",frame=True),Arm("Fault",[("k",Fau)],con,plan("fault"),"fault k"),Arm("Timeout",[],con,plan("timeout"),"timeout")]
+    carries=Callee("carries",crate,"carry"); CS=[a.fn for a in ARMS]+[carries]
+    # ---- the locals, as the arms have them: their variables and the change, the answer, and what the calls want
+    byte="tyInt w8"; ref="tyRef erased mut rec-ty"; lty=lambda k:byte if k=="u8" else "tyBool" if k=="bool" else k.mir()
+    LT=[Ans.mir(),"tyRef (named 0) mut rec-ty",Cal.mir(),Fra.mir(),"sliceTy (tyRef (named 1) mut (tyInt w8))"]
+    def local(ty): LT.append(ty); return len(LT)-1
+    for a in ARMS:
+        a.locs=[local(lty(k)) for n,k in a.vars]
+        if not a.reads: a.out=local("out-ty")
+    ANS=local(Ans.mir())
+    for a in ARMS:
+        a.copy=local(Con.mir())
+        if a.room: a.ptr=local("tyRef erased mut (tyInt w8)"); a.agg=local("sliceTy (tyRef erased mut (tyInt w8))")
+        if not a.reads: a.ref=local(ref)
+    N=len(LT)
     CELLS=[f"_{i}" for i in range(N)]; DIES=[f"d{i}" for i in range(N)]; ALL=CELLS+DIES
     val={1:"vptr b o",2:Cal.val("call"),3:Fra.val("f"),4:"s-room"}; had=["rec","tok","room","t-room"]
-    TROOM="‵ (flft κ-room q-room)"
+    TROOM="‵ (flft κ-room q-room)"; FIN="‵ (finally u8 γ-room zs)"
     HELD={"rec":"‵ Rec","tok":TOK,"room":"‵ Room′","t-room":TROOM}
     lemmas=[]
-    def lemma(com,name,pre,lhs,code,q,start,body,ind=8):
-        p=" "*ind
+    def lemma(com,name,pre,lhs,code,q,start,body):
+        p=" "*8
         lemmas.append(f"{p}{com}\n{p}{name} : {pre}Sq W {items(*start)} (runs C Λ En {code} ({q}))\n{p}{lhs} =\n{p}    {body.strip()}\n")
-    RET="atRet En Post"; STEP="stepFor call (bytesIn f) room"
+    RET="atRet En (Post call)"; NEXT="anyQ (Next call)"; STEP="stepFor call (bytesIn f) room"
     # ---- the start
     w=Walk(8); w.ctx=["toks","owns"]
     w.emit("split ! $ move ! (1 ∷ []) $ split ! $ "); w.ctx=["t-room","true","tok","owns"]; w.to(["owns"])
@@ -330,133 +454,126 @@ def step():
     FV=lst(["vptr b o",Cal.val("call"),Fra.val("f"),"s-room"]); enters(w,FV,N,["(tt, tt)",Cal.typed("call","call-is"),Fra.typed("f","f-is"),"(tt, (tt, (record { fits = room-room .0 }, tt)))"])
     w.to(had+ALL); w.emit("started "+" ".join(f"l{i}" for i in range(N))+" call call-is"); walk=w.text()
     base=list(w.ctx); w.ind=12
-    # ---- the room as it was: what says its last value
-    def unused():
-        w.to(["room"]); w.emit("fsplit ! $ move ! (1 ∷ []) $ fsplit ! $\nuse1 W (‵ (fres γ-room (codedHoleys u8 .code (heres u8 room)))) (W .names .obs-res γ-room (codedHoleys u8 .code (heres u8 room))) $ use1 W (‵ (finally u8 γ-room room)) (res-finally 𝓤 H A W (named 1) κ-room u8 γ-room room) $\n"); w.give(1,["fin","bor-room","said-room"])
-    def opened(i):
-        opens(w); w.nl(); copies(w,i); w.to(["cell","own","obor","obs","auth"]); w.emit("closes ! tt T.the-row h (mach h ∷ []) b o $\n"); w.give(5,["obs","bor","tok"])
-    def ended(filled,c,m,zs,facts):
-        """the arm's end: its locals are forgotten"""
-        w.emit(f"exec ! C Λ En pieces.t-2 ({RET}) $ "+"".join(f"forget ! {w.cell(i)} refl $ " for i in filled)); w.nl(); w.keep(["res","tok","t-room","fin"]+ALL); w.emit(f"answered {c} {m} {zs} {facts}")
-    SAYS="(c ≡ doneOf (stepOf h (stepFor call (bytesIn f) room)) .next) × (m ≡ doneOf (stepOf h (stepFor call (bytesIn f) room)) .answer) × (zs ≡ roomFor h call room)"
-    ISSTEP=lambda s:f"{s} ≡ {STEP} → room ≡ roomFor h call room → "
-    # ---- a read
-    start=(base,LT,{**val,2:"y2",5:"vint w8 n"},HELD)
-    opened(13); unused()
-    w.to(["obs"]); w.emit("use1 W (‵ (fres γ (T.the-row .coded .code h))) (W .names .obs-res γ (T.the-row .coded .code h)) $\n"); w.give(1,["res"])
-    w.emit(f"use0 W (raw ({reads.at()} .pre (to-reads n))) (asked-reads n n-fits was) $\n"); w.give(0,["pre"])
-    called(w,reads,"(to-reads n)","(h, (n, tt))",[w.load(13),w.load(5)],"Answer","m","v","tt","‵ ftrue",Ans.row(),"m ≡ doneOf (stepOf h (read n)) .answer","e",last=True)
-    w.ctx=["lasts","out"]+w.ctx[2:]; w.emit("drop ! $ split ! $ drop ! $\n"); w.give(2,["own"])
-    w.emit(Ans.peeks("m","(v ∷ [])")+"(λ is. drop ! $\n"); w.give(1,[])
-    w.land(12,LT[12],Ans.typed("m","is"),Ans.same("m","is"),last=True)
-    ended([5,13],"h","m","room","(sym (read-unchanged h n) ∙ ap next s, e ∙ ap answer s, z) (answer-is m _ is) refl")
-    lemma("-- a read, which changes nothing","reading",us([2])+"(n : ℕ) → n < 2 ^ 8 → "+ISSTEP("read n"),"reading n n-fits s z","code-read","anyQ Next",start,w.text())
-    # ---- the plan of a write, a frame or any other call, which is then carried out
-    def plan(c,i,k,r,to,asks,args,ops,ks,toks,says,e,mine):
-        """the call of c with the copy in the local i, its result in the local k"""
-        called(w,c,to,args,ops,"Change","x","v",ks,toks,"S.the-row",says,e)
-    def landed(k):
-        w.emit(Cha.peeks("x","(v ∷ [])")+"(λ is. drop ! $\n"); w.give(1,[])
-        w.land(k,LT[k],Cha.typed("x","is"),Cha.same("x","is"))
-        w.keep(["obs","bor","tok","t-room","fin"]+ALL)
-    def planning(name,com,c,i,k,r,locs,pre,lhs,said,e):
-        """locs: the locals of the pattern, with their values; said: what c says of x"""
-        w.ctx=list(base); start=(base,LT,{**val,2:"y2",**locs},HELD)
-        opened(i); unused()
-        w.emit(f"use0 W (raw ({c.at()} .pre (to-{c.a} {lhs}))) (asked-{c.a} {lhs} {' '.join(x+'-fits' for x in lhs.split() if x!='good')}{' ' if lhs!='good' else ''}was) $\n".replace("  "," ")); w.give(0,["pre"])
-        called(w,c,f"(to-{c.a} {lhs})",f"(args-{c.a} {lhs})",[w.load(i)]+[w.load(j) for j in locs]+([w.load(3)] if c is framed else []),"Change","x","v","tt","‵ ftrue","S.the-row",said,"e")
-        w.ctx=["lasts","out"]+w.ctx[2:]; w.emit("drop ! $ split ! $ drop ! $\n"); w.give(2,["own"])
-        landed(k); w.emit(f"carried-{k} x (change-is x _ is) (e ∙ ap (λ (s : Step). doneOf (stepOf h s)) s) room z refl")
-        lemma(com,name,us([2])+pre,f"{name} {lhs} {' '.join(x+'-fits' for x in lhs.split() if x!='good')} s z".replace("  "," "),f"code-{name}","anyQ Next",start,w.text())
-        return k
-    def carried(k,r,filled):
-        """the change in the local k is carried out, the record being lent again by the local r, at its own lifetime"""
-        ctx=["obs","bor","tok","t-room","fin"]+ALL; w.ctx=list(ctx)
-        vals={**val,**{i:f"y{i}" for i in filled if i!=k}}
-        vals[k]=Cha.val("x"); vals[2]="y2"
-        start=(ctx,LT,vals,{"obs":OBS("h"),"bor":BOR,"tok":TOK,"t-room":TROOM,"fin":"‵ (finally u8 γ-room zs)"})
-        w.again_ref(1,r); w.to(["obs","bor","tok"])
-        w.emit(f"group ! 3 $ use1 W (raw ({carries.at()} .pre (to-carries x))) (asked-carries x x-is) $\n"); w.give(3,["pre"])
-        called(w,carries,"(to-carries x)","(args-carries x)",[w.load(r),w.load(k)],"Answer","m","v","(κ, tt)",f"({TOK} ⊛ ‵ ftrue)",Ans.row(),"(ws .0 ≡ changed h x .next) × (m ≡ x .answer)","d",last=True)
-        w.ctx=["lasts","out"]+w.ctx[2:]; w.emit("fsplit ! $\n"); w.give(1,["res","more"]); w.to(["out"]); w.emit("split ! $ "); w.give(1,["toks","own"]); w.to(["own"])
-        w.emit(Ans.peeks("m","(v ∷ [])")+"(λ is. drop ! $ split ! $\n"); w.give(2,["tok","true"])
-        w.land(12,LT[12],Ans.typed("m","is"),Ans.same("m","is"),last=True)
-        ended(sorted(filled+[r]),"(ws .0)","m","zs","(d .0 ∙ ap (λ (u : Done). u .next) e, d .1 ∙ ap (λ (u : Done). u .answer) e, z) (answer-is m _ is) l")
-        ys=[2]+[i for i in filled if i!=k]
-        lemma("-- the change is carried out",f"carried-{k}",us(ys)+f"(x : Change) → {Cha.is_('x')} → changed h x ≡ doneOf (stepOf h ({STEP})) → (zs : List ℕ) → zs ≡ roomFor h call room → length zs ≡ length room → ",f"carried-{k} x x-is e zs z l",f"(carrying {r} {k})","anyQ Next",start,w.text())
-    planning("writing","-- a write",writes,14,8,15,{6:"vint w8 n",7:"vint w8 u"},"(n u : ℕ) → n < 2 ^ 8 → u < 2 ^ 8 → "+ISSTEP("write n u"),"n u","changed h x ≡ doneOf (stepOf h (write n u))","e")
-    carried(8,15,[6,7,8,14])
-    planning("framing","-- a frame",framed,16,10,17,{9:"vbool good"},"(good : Bool) → "+ISSTEP("frameStep good (bytesIn f)"),"good","changed h x ≡ doneOf (stepOf h (frameStep good (bytesIn f)))","e")
-    carried(10,17,[9,10,16])
-    # ---- any other call
-    w.ctx=list(base); start=(base,LT,val,HELD)
-    opened(18); w.again(4,19,20,"room-room"); w.to(["t-room","room"])
-    w.emit(f"group ! 2 $ use1 W (raw ({planned.at()} .pre (to-planned call))) (asked-planned call call-is was) $\n"); w.give(2,["pre"])
-    ZS="(ws .1 .1 .0)"
-    called(w,planned,"(to-planned call)","(args-planned call)",[w.load(18),w.load(2),w.load(20)],"Change","x","v","(κ-room, tt)",f"({TROOM} ⊛ ‵ ftrue)","S.the-row",["changed h x ≡ doneOf (stepOf h (restFor call room))",f"{ZS} ≡ roomFor h call room"],["e","z"])
-    w.ctx=["lasts","out"]+w.ctx[2:]; w.emit("fsplit ! $ drop ! $ fsplit ! $ drop ! $ fsplit ! $ fsplit ! $ move ! (1 ∷ []) $ feqL ! (λ l.\n"); w.give(1,["fin","true"])
-    w.to(["out"]); w.emit("split ! $ "); w.give(1,["toks","own"]); w.to(["own"])
-    w.emit(Cha.peeks("x","(v ∷ [])")+"(λ is. drop ! $ split ! $\n"); w.give(2,["t-room","true2"])
-    w.land(11,LT[11],Cha.typed("x","is"),Cha.same("x","is")); w.keep(["obs","bor","tok","t-room","fin"]+ALL)
-    w.emit(f"carried-11 x (change-is x _ is) (e ∙ ap (λ (s : Step). doneOf (stepOf h s)) s) {ZS} z l")
-    lemma("-- any other call, which may fill the room","resting",f"restFor call room ≡ {STEP} → ","resting s","code-resting","anyQ Next",start,w.text())
-    carried(11,21,[11,18,19,20])
     # ---- the return
     end=["res","tok","t-room","fin"]; ctx=end+ALL; w.ctx=list(ctx); kept=[1,2,3,4]
-    start=(ctx,LT,{**{i:f"y{i}" for i in kept},12:Ans.val("m")},{"res":"‵ (fres γ (T.the-row .coded .code c))","tok":TOK,"t-room":TROOM,"fin":"‵ (finally u8 γ-room zs)"})
-    w.copy(12,0,Ans.typed("m","g")); w.emit(f"returns ! (look ! {w.cell(0)} refl) $ "); w.free(N,[0]+kept+[12]); w.keep(end); w.emit("by ! (exits call call-is c m zs e g l)")
-    answered=("-- the `return`","answered",us(kept)+f"(c : Controller) (m : Answer) (zs : List ℕ) → Says call c m zs → {Ans.is_('m')} → length zs ≡ length room → ","answered c m zs e g l","pieces.t-2",RET,start,w.text())
-    lemma(*answered)
-    # the lemmas in the order in which they are cited
-    order=["answered","carried-8","carried-10","carried-11","reading","writing","framing","resting"]
-    byname={l.split("\n")[1].split(" : ")[0].strip():l for l in lemmas}; body="\n".join(byname[n] for n in order)
+    start=(ctx,LT,{**{i:f"y{i}" for i in kept},ANS:Ans.val("m")},{"res":"‵ (fres γ (T.the-row .coded .code c))","tok":TOK,"t-room":TROOM,"fin":FIN})
+    w.copy(ANS,0,Ans.typed("m","g")); w.emit(f"returns ! (look ! {w.cell(0)} refl) $ "); w.free(N,[0]+kept+[ANS]); w.keep(end); w.emit("by ! (exits call call-is c m zs e g l)")
+    lemma("-- the `return`","answered",us(kept)+f"(c : Controller) (m : Answer) (zs : List ℕ) → Says call c m zs → {Ans.is_('m')} → length zs ≡ length room → ","answered c m zs e g l","pieces.t-2",RET,start,w.text())
+    def ended(filled,c,m,zs,facts):
+        """the arm's end: its locals are forgotten"""
+        w.emit(f"exec ! C Λ En pieces.t-2 ({RET}) $ "+"".join(f"forget ! {w.cell(i)} refl $ " for i in filled)); w.nl(); w.keep(end+ALL); w.emit(f"answered {c} {m} {zs} {facts}")
+    # ---- the arms
+    HAS=["obs","bor","tok","t-room","fin"]
+    for a in ARMS:
+        mine=a.locs+([] if a.reads else [a.out])+[a.copy]+([a.ptr,a.agg] if a.room else [])
+        zs="(ws .1 .1 .0)" if a.room else "room"; given=" ".join(a.names()+a.given())
+        if not a.reads:
+            # the change is carried out, the record being lent again at its own lifetime
+            ctx=HAS+ALL; w.ctx=list(ctx); ys=[2]+[i for i in mine if i!=a.out]
+            start=(ctx,LT,{**val,**{i:f"y{i}" for i in ys},a.out:Cha.val("x")},{"obs":OBS("h"),"bor":BOR,"tok":TOK,"t-room":TROOM,"fin":FIN})
+            w.again_ref(1,a.ref); w.to(["obs","bor","tok"])
+            w.emit(f"group ! 3 $ use1 W (raw ({carries.at()} .pre (to-carry x))) (asked-carry x x-is) $\n"); w.give(3,["pre"])
+            called(w,carries,"(to-carry x)","(args-carry x)",[w.load(a.ref),w.load(a.out)],"Answer","m","v","(κ, tt)",f"({TOK} ⊛ ‵ ftrue)",Ans.row(),"(ws .0 ≡ changed h x .next) × (m ≡ x .answer)","d",last=True)
+            w.ctx=["lasts","out"]+w.ctx[2:]; w.emit("fsplit ! $\n"); w.give(1,["res","more"]); w.to(["out"]); w.emit("split ! $ "); w.give(1,["toks","own"]); w.to(["own"])
+            w.emit(Ans.peeks("m","(v ∷ [])")+"(λ is. drop ! $ split ! $\n"); w.give(2,["tok","true"])
+            w.land(ANS,LT[ANS],Ans.typed("m","is"),Ans.same("m","is"),last=True)
+            ended(sorted(mine+[a.ref]),"(ws .0)","m","zs","(d .0 ∙ ap (λ (u : Done). u .next) e, d .1 ∙ ap (λ (u : Done). u .answer) e, z) (answer-is m _ is) l")
+            lemma(f"-- what `{a.con}` changes is carried out",f"carried-{a.low}",us(ys)+f"(x : Change) → {Cha.is_('x')} → changed h x ≡ doneOf (stepOf h ({STEP})) → (zs : List ℕ) → zs ≡ roomFor h call room → length zs ≡ length room → ",f"carried-{a.low} x x-is e zs z l",f"(carrying {a.ref} {a.out})",NEXT,start,w.text())
+        # the borrow is opened for the copy, and the function is called
+        w.ctx=list(base); start=(base,LT,{**val,2:"y2",**{i:value(n,k) for i,(n,k) in zip(a.locs,a.vars)}},HELD)
+        opens(w); w.nl(); copies(w,a.copy); w.to(["cell","own","obor","obs","auth"]); w.emit("closes ! tt T.the-row h (mach h ∷ []) b o $\n"); w.give(5,["obs","bor","tok"])
+        ask=par(" ".join([f"asked-{a.low}"]+a.names()+a.given()+["was"]))
+        if a.room:
+            w.again(4,a.ptr,a.agg,"room-room"); w.to(["t-room","room"])
+            w.emit(f"group ! 2 $ use1 W (raw ({a.fn.at()} .pre {a.to()})) {ask} $\n"); w.give(2,["pre"])
+        else:
+            # the room is not passed: what it has is its last value
+            w.to(["room"]); w.emit("fsplit ! $ move ! (1 ∷ []) $ fsplit ! $\nuse1 W (‵ (fres γ-room (codedHoleys u8 .code (heres u8 room)))) (W .names .obs-res γ-room (codedHoleys u8 .code (heres u8 room))) $ use1 W (‵ (finally u8 γ-room room)) (res-finally 𝓤 H A W (named 1) κ-room u8 γ-room room) $\n"); w.give(1,["fin","bor-room","said-room"])
+            if a.reads: w.to(["obs"]); w.emit("use1 W (‵ (fres γ (T.the-row .coded .code h))) (W .names .obs-res γ (T.the-row .coded .code h)) $\n"); w.give(1,["res"])
+            w.emit(f"use0 W (raw ({a.fn.at()} .pre {a.to()})) {ask} $\n"); w.give(0,["pre"])
+        ops=[w.load(a.copy)]+[w.load(i) for i in a.locs]+([w.load(3)] if a.frame else [w.load(a.agg)] if a.room else [])
+        says=f"m ≡ answer ({a.step})" if a.reads else f"changed h x ≡ doneOf (stepOf h ({a.step}))"
+        if a.room: says=[says,f"{zs} ≡ stepOf h ({a.step}) .room"]
+        res,T=("m","Answer") if a.reads else ("x","Change"); D=Ans if a.reads else Cha
+        called(w,a.fn,a.to(),a.args(),ops,T,res,"v","(κ-room, tt)" if a.room else "tt",f"({TROOM} ⊛ ‵ ftrue)" if a.room else "‵ ftrue",D.row(),says,["e","z₁"] if a.room else "e",last=a.reads)
+        w.ctx=["lasts","out"]+w.ctx[2:]
+        if a.room:
+            w.emit("fsplit ! $ drop ! $ "*(1+len(a.vars))+"fsplit ! $ fsplit ! $ move ! (1 ∷ []) $ feqL ! (λ l.\n"); w.give(1,["fin","true"])
+            w.to(["out"]); w.emit("split ! $ "); w.give(1,["toks","own"]); w.to(["own"])
+        else: w.emit("drop ! $ split ! $ drop ! $\n"); w.give(2,["own"])
+        w.emit(D.peeks(res,"(v ∷ [])")+"(λ is. drop ! $"+(" split ! $" if a.room else "")+"\n"); w.give(1,[])
+        if a.room: w.give(1,["t-room","true2"])
+        k=ANS if a.reads else a.out
+        w.land(k,LT[k],D.typed(res,"is"),D.same(res,"is"),last=a.reads)
+        if a.reads: ended(sorted(mine),"h","m","room","(sym (read-unchanged h n) ∙ ap next s, e ∙ ap answer s, z) (answer-is m _ is) refl")
+        else: w.keep(HAS+ALL); w.emit(f"carried-{a.low} x (change-is x _ is) (e ∙ ap (λ (s : Step). doneOf (stepOf h s)) s) {zs} {'(z₁ ∙ z) l' if a.room else 'z refl'}")
+        left=f"stepOf h ({a.step}) .room" if a.room else "room"
+        lemma(f"-- {a.con}",f"on-{a.low}",us([2])+(a.binders() if a.vars else "")+"→ "+a.facts()+f"{a.step} ≡ {STEP} → {left} ≡ roomFor h call room → ",f"on-{a.low} {given} s z".replace("  "," "),f"code-{a.low}",NEXT,start,w.text())
     # ---- the match
-    w=Walk(10); w.ctx=list(base); k2=w.cell(2)
-    TAG=f"switches-on ! (load ! (from ! (vrt ! refl (fld ! refl (stop !)))) (look-tag ! {k2} (whole !))) $ "
-    def field(k,j): return f"(of-opd ! (load ! (from ! (vrt ! refl (fld ! refl (stop !)))) (look-in ! {k2} (in-variant ! {k} {j} refl refl (whole !)))))"
-    owed=lambda c,j:f"EL.owed {Cal.a}.the-type {Cal.a}′.the-laws {c} _ i{path(j)} .1"
-    cl=[]
-    def clause(pat,code,loads,end):
-        t=f"{TAG}exec ! C Λ En {code} (anyQ (Next {pat})) $\n          "
-        for (k,j,i,ty) in loads: t+=f"assigns ! {field(k,j)} (from ! (stop !)) (init ! {w.cell(i)} refl {ty}) $\n          "
-        cl.append(f"      matched {pat} i =\n          {t}{end}")
-    fits=lambda p:f"(tt, record {{ fits = {p} }})"
-    rd="(Read n)"; wr="(Write n u)"; fr="(Frame good)"
-    clause(rd,"(taken 5 1 1 code-read)",[(1,0,5,fits(owed(rd,0)))],f"reading {rd} i n ({owed(rd,0)}) refl refl")
-    clause(wr,"(taken 6 2 1 (taken 7 2 2 code-writing))",[(2,0,6,fits(owed(wr,0))),(2,1,7,fits(owed(wr,1)))],f"writing {wr} i n u ({owed(wr,0)}) ({owed(wr,1)}) refl refl")
-    clause(fr,"(taken 9 6 1 code-framing)",[(6,0,9,"(tt, tt)")],f"framing {fr} i good refl refl")
-    for p in ("Reset","(Sync k)","SyncDue","(Slot n)","(Fault k)","Timeout"): clause(p,"code-resting",[],f"resting {p} i refl")
-    matched=f"      matched : (call : Call) → {Cal.is_('call')} → Sq W {items(base,LT,val,HELD)} (runs C Λ En the-match (anyQ (Next call)))\n"+"\n".join(cl)+"\n"
+    w=Walk(10); w.ctx=list(base); k2=w.cell(2); cl=[]
+    for key,a in enumerate(ARMS):
+        f=f"switches-on ! (load ! (from ! (vrt ! refl (fld ! refl (stop !)))) (look-tag ! {k2} (whole !))) $ exec ! C Λ En arm-{a.low} (anyQ (Next {a.pat()})) $\n          "
+        owe=lambda j,k:f"EL.owed {Cal.a}.the-type {Cal.a}′.the-laws {a.pat()} _ i{path(j)}"+(" .1" if k=="u8" else "")
+        for j,((n,k),l) in enumerate(zip(a.vars,a.locs)): f+=f"assigns ! (of-opd ! (load ! (from ! (vrt ! refl (fld ! refl (stop !)))) (look-in ! {k2} (in-variant ! {key} {j} refl refl (whole !))))) (from ! (stop !)) (init ! {w.cell(l)} refl {typed(n,k,owe(j,k) if k=='u8' else par(owe(j,k)))}) $\n          "
+        cl.append(f"      matched {a.pat()} i =\n          {f}on-{a.low} {a.pat()} i {' '.join(a.names()+[par(owe(j,k)) for j,(n,k) in enumerate(a.vars) if k!='bool'])} refl refl".replace("  refl"," refl"))
+    TYPE=f"(call : Call) → {Cal.is_('call')} → Sq W {items(base,LT,val,HELD)}"
     # ---- what is asked, and what is had at exit
     w=Walk(6); w.ctx=list(end)
     w.emit("nothing ! $ "); w.give(0,["t"]); w.to(["t-room","t"]); w.emit("join ! $ "); w.give(2,["t"]); w.to(["tok","t"]); w.emit("join ! $ frame ! $\n"); w.give(2,[])
     w.emit("nothing ! $ "); w.give(0,["X"]); w.to(["fin","X"]); w.emit("fjoin ! $ "); w.give(2,["X"]); w.emit(Fra.owned("f","f-is")+"fjoin ! $ "+Cal.owned("call","call-is")+"fjoin ! $ "); w.to(["res","X"]); w.emit("fjoin ! $ frame ! $ "+Ans.owned("m","g")+"done !"); exits=w.text()
     CLOSE="move ! (1 ∷ 0 ∷ []) $ join ! $ nothing ! $ move ! (1 ∷ 0 ∷ []) $ join ! $ done !"
-    BYTE=lambda x:f"owned ! u8 (Is u8) (uint-makes 𝓤 H A W w8) {x} _ (refl, {x}-fits) $ fjoin ! $ "
-    HOWN=Con.owned("h","was")+"fjoin ! $ "
-    ask_read="nothing ! $ nothing ! $ "+BYTE("n")+HOWN+CLOSE
-    ask_write="nothing ! $ nothing ! $ "+BYTE("u")+BYTE("n")+HOWN+CLOSE
-    ask_frame="nothing ! $ nothing ! $ "+Fra.owned("f","f-is")+"fjoin ! $ owned ! boolean (Is boolean) (bool-makes 𝓤 H A W) good _ refl $ fjoin ! $ "+HOWN+CLOSE
-    w=Walk(6); w.ctx=["t-room","room"]; w.emit("nothing ! $ "); w.give(0,["t"]); w.to(["t-room","t"]); w.emit("join ! $ nothing ! $ "); w.give(2,["X","t"]); w.to(["room","X"]); w.emit("fjoin ! $ "); w.give(2,["X"])
-    w.emit(Cal.owned("call","call-is")+"fjoin ! $ "+HOWN+CLOSE); ask_planned=w.text()
+    def asks(a):
+        ty=" × (".join(["Controller"]+[den(k) for n,k in a.vars]+(["FrameBytes"] if a.frame else ["RefT (List ℕ)"] if a.room else [])+["Unit {0}"])+")"*(len(a.vars)+1+(a.frame or a.room))
+        xs=["h"]+a.names()+(["f"] if a.frame else ["room-ref"] if a.room else [])
+        vs=["mach h ∷ []"]+[value(n,k)+" ∷ []" for n,k in a.vars]+([Fra.val("f")+" ∷ []"] if a.frame else ["s-room ∷ []"] if a.room else [])
+        bs="".join(f"{den(k)} → " for n,k in a.vars); ns="".join(" "+n for n in a.names())
+        held=f"({TROOM} ∷ ‵ Room′ ∷ [])" if a.room else "[]"
+        w=Walk(6)
+        if a.room: w.ctx=["t-room","room"]; w.emit("nothing ! $ "); w.give(0,["t"]); w.to(["t-room","t"]); w.emit("join ! $ nothing ! $ "); w.give(2,["X","t"]); w.to(["room","X"]); w.emit("fjoin ! $ ")
+        else: w.emit("nothing ! $ nothing ! $ "+(Fra.owned("f","f-is")+"fjoin ! $ " if a.frame else ""))
+        for n,k in reversed(a.vars): w.emit(owned(n,k))
+        w.emit(Con.owned("h","was")+"fjoin ! $ "+CLOSE)
+        return f"""  abbrev args-{a.low} : {bs}{ty}
+  args-{a.low}{ns} = {tup(xs)}
+
+  abbrev to-{a.low} : {bs}{a.fn.at()} .Ghost
+  to-{a.low}{ns} = (({'(κ-room, tt), (q-room, tt)' if a.room else 'tt, tt'}, tt, {a.args()}, {tup(vs)}), tt)
+
+  asked-{a.low} : {a.binders()+'→ ' if a.vars else ''}{a.facts()}{Con.is_("h")} → ent 𝓤 ({'⋆ 𝓤 H A '+held if a.room else 'emp 𝓤'}) ({a.fn.at()} .pre {a.to()})
+  asked-{a.low} {' '.join(a.names()+a.given()+['was'])} = qed W {held} ∵ {w.text()}
+"""
     w=Walk(6); w.ctx=["obs","bor","tok"]; w.emit("nothing ! $ "); w.give(0,["t"]); w.to(["tok","t"]); w.emit("join ! $ nothing ! $ "); w.give(2,["X","t"]); w.emit(Cha.owned("x","x-is")+"fjoin ! $ "); w.to(["obs","bor","X"])
     w.emit("feqI ! (List Val) (vptr b o ∷ []) (vptr b o ∷ []) refl $ fjoin3 ! $ fjoin ! $ "+CLOSE); ask_carry=w.text()
     GL="(κ, (κ-room, tt))"; GQ="(q, (q-room, tt))"; bound=f"(({GL}, {GQ}, tt, a, at), tt)"
-    cp=lambda i,st="":f"copyᴹ (placeᴹ {i} {par(st+'[]') if st else '[]'})"
+    cp=lambda i:f"copyᴹ (placeᴹ {i} [])"
+    def code(a):
+        ops=" ∷ ".join([cp(a.copy)]+[cp(i) for i in a.locs]+([cp(3)] if a.frame else [cp(a.agg)] if a.room else [])+["[]"])
+        c=f"callᴹ #{a.fn.a} ({ops}) (placeᴹ {ANS if a.reads else a.out} [])"
+        if not a.reads: c=f"seqᴹ ({c}) (carrying {a.ref} {a.out})"
+        if a.room: c=f"seqᴹ (assignᴹ (placeᴹ {a.ptr} []) (addrOf (placeᴹ 4 (fieldᴹ 0 ∷ deref (tyInt w8) ∷ [])))) (seqᴹ (assignᴹ (placeᴹ {a.agg} []) (aggregate ({cp(a.ptr)} ∷ copyᴹ (placeᴹ 4 (fieldᴹ 1 ∷ [])) ∷ []))) ({c}))"
+        return f"abbrev code-{a.low} : Bodyᴹ\ncode-{a.low} = copied {a.copy} ({c})\n"
+    def armcode(key,a):
+        c=f"code-{a.low}"
+        for j,l in reversed(list(enumerate(a.locs))): c=f"taken {l} {key} {j+1} {par(c)}"
+        return f"abbrev arm-{a.low} : Bodyᴹ\narm-{a.low} = {c}\n"
+    match="noDefault"
+    for key,a in reversed(list(enumerate(ARMS))): match=f"armᴹ ({key} ∷ []) arm-{a.low} {par(match)}"
+    body="\n".join(lemmas); nl=chr(10)
     print(f"""-- `lent::step` meets its contract: a walk of its MIR. The switch goes by cases on the call: the tag is then a numeral, and only the arm that runs is walked. In an arm the borrow is opened for a copy of the record and closed at the same record.
--- A read's answer is had from the copy. For any other call the copy gives the change, and the reference goes on to `carry` at its own lifetime, which gives back what says its last value. The room goes on to `planned` in the same way; where
+-- A read's answer is had from the copy. For any other call the copy gives the change, and the reference goes on to `carry` at its own lifetime, which gives back what says its last value. The room goes on to `plan_slot` in the same way; where
 -- it is not passed, its last value is the one that it has. All that the proof knows of these functions is that they meet their contracts. Written by tools/gen_lent.py.
 {HEAD}
-use Rattle.rules.specs.Steps.{{Step, read, write, frame as frameStep}}
+use Rattle.rules.specs.Steps.{{Step, reset, read, write, sync, syncDue, slot, frame as frameStep, fault, timeout}}
 use Rattle.controller.specs.declared.Done.{{Done}}
-use Rattle.controller.specs.declared.Call.the-variants.{{Reset, Read, Write, Sync, SyncDue, Slot, Frame, Fault, Timeout}}
+use Rattle.controller.specs.declared.Call.the-variants.{{{", ".join(a.con for a in ARMS)}}}
 use Rattle.controller.specs.Session.{{stepOf}}
 use Rattle.controller.specs.Unchanged.{{read-unchanged}}
 use Rattle.controller.specs.Code.{{doneOf, changed, stepFor, roomFor, bytesIn}}
-use {spec}.Kinds.{{restFor}}
-{chr(10).join(d.uses() for d in (Con,Cha,Cal,Fra,Ans))}
-use {Ctl.uses().split("use ")[3].strip().split(" as ")[0]} as {Ctl.a}′
-{chr(10).join(c.uses() for c in CS)}
+{nl.join(d.uses() for d in (Con,Cha,Cal,Fra,Syn))}
+{Fau.uses().replace("{Fault}","{Fault as FaultKind}")}
+{Ans.uses()}
+use Rattle.rules.proofs.Control.Laws as {Ctl.a}′
+{nl.join(c.uses() for c in CS)}
 {THIS}
 
 abbrev Arg : Type 0
@@ -466,7 +583,7 @@ abbrev stayed : Stays (this.ended .signature .params) (this.ended .kept)
 stayed = (gave-ref (0 ∷ []) tt (plain (λ _. T.the-row)), (stay-none (λ _. {Cal.row()}) yes, (stay-none (λ _. {Fra.row()}) yes, (gave-slice (1 ∷ []) tt (plain (λ _. u8)), tt))))
 
 -- the contracts that the proof cites
-{chr(10).join(c.contract() for c in CS)}
+{nl.join(c.contract() for c in CS)}
 {OUT_TY}
 change-is : (x : Change) (vs : List Val) → Is S.the-row x vs → {Cha.is_("x")}
 change-is x vs g = LL.owes S.the-type S′.the-laws x (LL.owed S.the-type S′.the-laws x vs g)
@@ -482,22 +599,12 @@ abbrev copied : ℕ → Bodyᴹ → Bodyᴹ
 copied i rest = seqᴹ (assignᴹ (placeᴹ i []) (rvOpd (copyᴹ (placeᴹ 1 (deref T′.mir ∷ []))))) rest
 
 abbrev carrying : ℕ → ℕ → Bodyᴹ
-carrying r k = seqᴹ (assignᴹ (placeᴹ r []) (addrOf (placeᴹ 1 (deref T′.mir ∷ [])))) (callᴹ #carries (copyᴹ (placeᴹ r []) ∷ copyᴹ (placeᴹ k []) ∷ []) (placeᴹ 12 []))
+carrying r k = seqᴹ (assignᴹ (placeᴹ r []) (addrOf (placeᴹ 1 (deref T′.mir ∷ [])))) (callᴹ #carries (copyᴹ (placeᴹ r []) ∷ copyᴹ (placeᴹ k []) ∷ []) (placeᴹ {ANS} []))
 
-abbrev code-read : Bodyᴹ
-code-read = copied 13 (callᴹ #reads ({cp(13)} ∷ {cp(5)} ∷ []) (placeᴹ 12 []))
-
-abbrev code-writing : Bodyᴹ
-code-writing = copied 14 (seqᴹ (callᴹ #writes ({cp(14)} ∷ {cp(6)} ∷ {cp(7)} ∷ []) (placeᴹ 8 [])) (carrying 15 8))
-
-abbrev code-framing : Bodyᴹ
-code-framing = copied 16 (seqᴹ (callᴹ #framed ({cp(16)} ∷ {cp(9)} ∷ {cp(3)} ∷ []) (placeᴹ 10 [])) (carrying 17 10))
-
-abbrev code-resting : Bodyᴹ
-code-resting = copied 18 (seqᴹ (assignᴹ (placeᴹ 19 []) (addrOf (placeᴹ 4 (fieldᴹ 0 ∷ deref (tyInt w8) ∷ [])))) (seqᴹ (assignᴹ (placeᴹ 20 []) (aggregate ({cp(19)} ∷ {cp(4,"fieldᴹ 1 ∷ ")} ∷ []))) (seqᴹ (callᴹ #planned ({cp(18)} ∷ {cp(2)} ∷ {cp(20)} ∷ []) (placeᴹ 11 [])) (carrying 21 11))))
-
+{nl.join(code(a) for a in ARMS)}
+{nl.join(armcode(key,a) for key,a in enumerate(ARMS))}
 abbrev the-match : Bodyᴹ
-the-match = switchᴹ (copyᴹ (placeᴹ 2 (variantᴹ 0 ∷ fieldᴹ 0 ∷ []))) (armᴹ (1 ∷ []) (taken 5 1 1 code-read) (armᴹ (2 ∷ []) (taken 6 2 1 (taken 7 2 2 code-writing)) (armᴹ (6 ∷ []) (taken 9 6 1 code-framing) (armᴹ (0 ∷ 3 ∷ 4 ∷ 5 ∷ 7 ∷ 8 ∷ []) code-resting noDefault))))
+the-match = switchᴹ (copyᴹ (placeᴹ 2 (variantᴹ 0 ∷ fieldᴹ 0 ∷ []))) ({match})
 
 module _ {G} (W : Given 𝓤 H A) {AM} (κ κ-room : Lft) (q q-room : Share) (b o : ℕ) (γ : GName) (h : Controller) (f : FrameBytes) (b-room o-room : ℕ) (γ-room : GName) (room : List ℕ) (f-is : {Fra.is_("f")}) (room-room : Room u8 (length room)) where
   abbrev rec : RefT Controller
@@ -532,11 +639,11 @@ module _ {G} (W : Given 𝓤 H A) {AM} (κ κ-room : Lft) (q q-room : Share) (b 
     Post = walkOf 𝓤 H A this.ended stayed (this.clauses 𝓤 H A at-mem run) .post {bound}
 
     abbrev Says : Controller → Answer → List ℕ → Type 0
-    Says c m zs = {SAYS}
+    Says c m zs = (c ≡ next ({STEP})) × (m ≡ answer ({STEP})) × (zs ≡ roomFor h call room)
 
     -- what is had at exit
     abbrev Had : Controller → List ℕ → List (Item 𝓤)
-    Had c zs = ‵ (fres γ (T.the-row .coded .code c)) ∷ {TOK} ∷ {TROOM} ∷ ‵ (finally u8 γ-room zs) ∷ []
+    Had c zs = ‵ (fres γ (T.the-row .coded .code c)) ∷ {TOK} ∷ {TROOM} ∷ {FIN} ∷ []
 
     exits : {Cal.is_("call")} → (c : Controller) (m : Answer) (zs : List ℕ) → Says c m zs → {Ans.is_("m")} → length zs ≡ length room → ent 𝓤 (⋆ 𝓤 H A (Had c zs)) (Post ({Ans.val("m")}))
     exits call-is c m zs e g l =
@@ -545,47 +652,15 @@ module _ {G} (W : Given 𝓤 H A) {AM} (κ κ-room : Lft) (q q-room : Share) (b 
       {exits}
 
   -- what the triples bind outside, and what they ask
-  abbrev to-reads : ℕ → {reads.at()} .Ghost
-  to-reads n = ((tt, tt, tt, (h, (n, tt)), (mach h ∷ [], (vint w8 n ∷ [], tt))), tt)
+{nl.join(asks(a) for a in ARMS)}
+  abbrev args-carry : Change → RefT Controller × (Change × Unit {{0}})
+  args-carry x = (rec, (x, tt))
 
-  asked-reads : (n : ℕ) → n < 2 ^ 8 → {Con.is_("h")} → ent 𝓤 (emp 𝓤) ({reads.at()} .pre (to-reads n))
-  asked-reads n n-fits was = qed W [] ∵ {ask_read}
+  abbrev to-carry : Change → {carries.at()} .Ghost
+  to-carry x = (((κ, tt), (q, tt), tt, args-carry x, (vptr b o ∷ [], ({Cha.val("x")} ∷ [], tt))), tt)
 
-  abbrev args-writes : ℕ → ℕ → Controller × (ℕ × (ℕ × Unit {{0}}))
-  args-writes n u = (h, (n, (u, tt)))
-
-  abbrev to-writes : ℕ → ℕ → {writes.at()} .Ghost
-  to-writes n u = ((tt, tt, tt, args-writes n u, (mach h ∷ [], (vint w8 n ∷ [], (vint w8 u ∷ [], tt)))), tt)
-
-  asked-writes : (n u : ℕ) → n < 2 ^ 8 → u < 2 ^ 8 → {Con.is_("h")} → ent 𝓤 (emp 𝓤) ({writes.at()} .pre (to-writes n u))
-  asked-writes n u n-fits u-fits was = qed W [] ∵ {ask_write}
-
-  abbrev args-framed : Bool → Controller × (Bool × (FrameBytes × Unit {{0}}))
-  args-framed good = (h, (good, (f, tt)))
-
-  abbrev to-framed : Bool → {framed.at()} .Ghost
-  to-framed good = ((tt, tt, tt, args-framed good, (mach h ∷ [], (vbool good ∷ [], ({Fra.val("f")} ∷ [], tt)))), tt)
-
-  asked-framed : (good : Bool) → {Con.is_("h")} → ent 𝓤 (emp 𝓤) ({framed.at()} .pre (to-framed good))
-  asked-framed good was = qed W [] ∵ {ask_frame}
-
-  abbrev args-planned : Call → Controller × (Call × (RefT (List ℕ) × Unit {{0}}))
-  args-planned call = (h, (call, (room-ref, tt)))
-
-  abbrev to-planned : Call → {planned.at()} .Ghost
-  to-planned call = (((κ-room, tt), (q-room, tt), tt, args-planned call, (mach h ∷ [], ({Cal.val("call")} ∷ [], (s-room ∷ [], tt)))), tt)
-
-  asked-planned : (call : Call) → {Cal.is_("call")} → {Con.is_("h")} → ent 𝓤 (⋆ 𝓤 H A ({TROOM} ∷ ‵ Room′ ∷ [])) ({planned.at()} .pre (to-planned call))
-  asked-planned call call-is was = qed W ({TROOM} ∷ ‵ Room′ ∷ []) ∵ {ask_planned}
-
-  abbrev args-carries : Change → RefT Controller × (Change × Unit {{0}})
-  args-carries x = (rec, (x, tt))
-
-  abbrev to-carries : Change → {carries.at()} .Ghost
-  to-carries x = (((κ, tt), (q, tt), tt, args-carries x, (vptr b o ∷ [], ({Cha.val("x")} ∷ [], tt))), tt)
-
-  asked-carries : (x : Change) → {Cha.is_("x")} → ent 𝓤 (⋆ 𝓤 H A ({OBS("h")} ∷ {BOR} ∷ {TOK} ∷ [])) ({carries.at()} .pre (to-carries x))
-  asked-carries x x-is = qed W ({OBS("h")} ∷ {BOR} ∷ {TOK} ∷ []) ∵ {ask_carry}
+  asked-carry : (x : Change) → {Cha.is_("x")} → ent 𝓤 (⋆ 𝓤 H A ({OBS("h")} ∷ {BOR} ∷ {TOK} ∷ [])) ({carries.at()} .pre (to-carry x))
+  asked-carry x x-is = qed W ({OBS("h")} ∷ {BOR} ∷ {TOK} ∷ []) ∵ {ask_carry}
 
   module _ (C : Calls 𝓤 H) (Λ : Loops 𝓤 H) (fm : FmC 𝓤 H (W .laws) C) {" ".join(f"(known-{c.a} : {c.triple('C')})" for c in CS)} where
     module _ ({" ".join(f"l{i}" for i in range(N))} : ℕ) where
@@ -595,11 +670,12 @@ module _ {G} (W : Given 𝓤 H A) {AM} (κ κ-room : Lft) (q q-room : Share) (b 
       Next call = afterSeq 𝓤 H (Wp 𝓤 H C Λ En pieces.t-2 (atReturn 𝓤 H En (Post call))) (atReturn 𝓤 H En (Post call))
 
       module _ (call : Call) (call-is : {Cal.is_("call")}) where
-""")
-    print(body.replace("(atRet En Post)","(atRet En (Post call))").replace("anyQ Next","anyQ (Next call)"))
-    print(f"""      -- the switch: what is left computes to the arm that runs
-{matched}
-      started : (call : Call) → {Cal.is_('call')} → Sq W {items(base,LT,val,HELD)} (runs C Λ En pieces.t-1 (atRet En (Post call)))
+{body}
+      -- the switch: what is left computes to the arm that runs
+      matched : {TYPE} (runs C Λ En the-match (anyQ (Next call)))
+{nl.join(cl)}
+
+      started : {TYPE} (runs C Λ En pieces.t-1 (atRet En (Post call)))
       started call call-is = first ! $ matched call call-is
 
     walk : (call : Call) → {Cal.is_("call")} → ent 𝓤 (onEntry 𝓤 H A this.signature {GL} {GQ} (a call) (at call)) (WpFn 𝓤 H C Λ code.function {FV} (Post call))

@@ -4,7 +4,7 @@ ghost use mathlib.Core.Path.{_≡_};
 ghost use Rattle.rules.specs.Steps.Step.{read as readStep, frame as frameStep};
 ghost use Rattle.controller.specs.Session.{stepOf};
 ghost use Rattle.controller.specs.Code.{doneOf, changed, stepFor, roomFor, bytesIn};
-ghost use Rattle.lent.specs.Kinds.{restFor};
+use contents::Contents;
 use controller::Call;
 use controller::Change;
 use controller::Controller;
@@ -31,29 +31,20 @@ fn framed(c: Controller, good: bool, f: FrameBytes) -> Change
     c.plan_frame(good, &b)
 }
 
-// What a call that is no read, write or frame changes.
-fn planned(c: Controller, call: Call, room: &mut [u8]) -> Change
-    ensures { λ x. ⌜ changed c x ≡ doneOf (stepOf c (restFor call (now (room .entry)))) ⌝ }
-    ensures { λ _. ⌜ now (room .exit) ≡ roomFor c call (now (room .entry)) ⌝ }
-{
-    match call {
-        Call::Reset => c.plan_reset(),
-        Call::Sync(k) => c.plan_sync(k),
-        Call::SyncDue => c.plan_due(),
-        Call::Slot(i) => c.plan_slot(i, room),
-        Call::Fault(k) => c.plan_fault(k),
-        _ => c.plan_timeout(),
-    }
-}
-
-// The change carried out: the control state alone where no buffer's bytes change.
+// The change carried out: the control state, and the one buffer whose bytes change. Only a reset writes the whole record.
 fn carry(c: &mut Controller, x: Change) -> Answer
     ensures { λ r. ⌜ (now (c .exit) ≡ changed (now (c .entry)) x .next) × (r ≡ x .answer) ⌝ }
 {
-    if x.place == 16 {
+    if x.place < 16 {
+        let n = x.place as usize;
         c.control = x.control;
+        c.rows[n] = Contents { bytes: x.bytes };
     } else {
-        *c = (*c).after(x);
+        if x.place == 16 {
+            c.control = x.control;
+        } else {
+            *c = (*c).after(x);
+        }
     }
     x.answer
 }
@@ -63,17 +54,37 @@ pub fn step(c: &mut Controller, call: Call, f: FrameBytes, room: &mut [u8]) -> A
     ensures { λ r. ⌜ (now (c .exit) ≡ doneOf (stepOf (now (c .entry)) (stepFor call (bytesIn f) (now (room .entry)))) .next) × (r ≡ doneOf (stepOf (now (c .entry)) (stepFor call (bytesIn f) (now (room .entry)))) .answer) × (now (room .exit) ≡ roomFor (now (c .entry)) call (now (room .entry))) ⌝ }
 {
     match call {
+        Call::Reset => {
+            let x = (*c).plan_reset();
+            carry(c, x)
+        }
         Call::Read(a) => read(*c, a),
         Call::Write(a, v) => {
             let x = (*c).plan_write(a, v);
+            carry(c, x)
+        }
+        Call::Sync(k) => {
+            let x = (*c).plan_sync(k);
+            carry(c, x)
+        }
+        Call::SyncDue => {
+            let x = (*c).plan_due();
+            carry(c, x)
+        }
+        Call::Slot(i) => {
+            let x = (*c).plan_slot(i, room);
             carry(c, x)
         }
         Call::Frame(good) => {
             let x = framed(*c, good, f);
             carry(c, x)
         }
-        _ => {
-            let x = planned(*c, call, room);
+        Call::Fault(k) => {
+            let x = (*c).plan_fault(k);
+            carry(c, x)
+        }
+        Call::Timeout => {
+            let x = (*c).plan_timeout();
             carry(c, x)
         }
     }

@@ -1,5 +1,5 @@
--- `lent::carry` meets its contract: a walk of its MIR. The borrow is opened, and the control state is stored behind it; or the record is copied out, `Controller::after` changes it, and it is stored over the old one. The borrow is closed at the
--- record that is there. All that the proof knows of `after` is that it meets its contract. Written by tools/gen_lent.py.
+-- `lent::carry` meets its contract: a walk of its MIR. The borrow is opened, and the control state is stored behind it, and the buffer's bytes where one buffer's change; or the record is copied out, `Controller::after` changes it, and it is
+-- stored over the old one. The borrow is closed at the record that is there. All that the proof knows of `after` is that it meets its contract. Written by tools/gen_lent.py.
 -- Assumes nothing.
 use mathlib.Core.Path.{_≡_, refl, ap, sym, _∙_, subst}
 use Prim.Native.Nat.{ℕ, _<_, _^_}
@@ -45,9 +45,21 @@ use denote.Triple.Clauses.{ensured, lasts, Lasts}
 use denote.Triple.Table.{entered, cited}
 use denote.Triple.Walked.{says, Stays, stay-ref, gave-ref, stay-none, gave-slice, walkOf, AllGo, goes-none, goes-ref, goes-gave-ref, goes-gave-slice, Walks, ends-at, walked, walk-meets}
 use denote.Exit.{yes}
-use Rattle.contents.specs.declared.Contents.{Contents}
+use Prim.Native.Nat.{_+_, _*_}
+use native.Mathlib.Omega.{arith}
+use mathlib.Core.List.{map}
+use lib.Dec.{ltb, ltb→lt}
+use lib.ListN.{set, length-map}
+use mir.Syntax.{tyPtr, cond as condᴹ, op1, op2, cast, unsigned, mul, offset, eq, int as intᴹ}
+use mir.Val.{vstruct, vcons, vnil}
+use prog.Memory.{size}
+use types.Run.{un}
+use denote.Index.{place-is}
+use denote.Array.{Array, arrayVal}
+use denote.Struct.Struct.{Struct}
+use denote.Struct.Declared.{shape}
 use Rattle.controller.specs.Code.{changed}
-use Rattle.controller.specs.CodeLaws.{placed-none}
+use Rattle.controller.specs.CodeLaws.{placed-none, placed-one}
 use Rattle.controller.specs.declared.Controller.{Controller}
 use Rattle.controller.proofs.Controller as T
 use Rattle.controller.proofs.Controller.Laws as T′
@@ -57,9 +69,13 @@ use Rattle.controller.proofs.Change.Laws as S′
 use Rattle.rules.specs.declared.Control.{Control}
 use Rattle.rules.proofs.Control as Control-row
 use Rattle.rules.proofs.Control.Laws as Control-row′
+use Rattle.contents.specs.declared.Contents.{Contents}
+use Rattle.contents.proofs.Contents as Row
+use Rattle.contents.proofs.Contents.Laws as Row′
 use Rattle.rules.specs.declared.Answer.{Answer}
 use Rattle.rules.proofs.Answer as Answer-row
 use Rattle.rules.proofs.Answer.Laws as Answer-row′
+use Rattle.lent.proofs.Element.{elem, map-set, array-set}
 use Rattle.controller.proofs.Controller.after as after
 use Rattle.controller.proofs.Controller.after.Symbol as after-def
 use Rattle.controller.proofs.Controller.after.Symbol.{name as #after}
@@ -95,16 +111,33 @@ mach = LL.val T.the-type T′.the-laws
 same-is : (c : Controller) (vs : List Val) → Is T.the-row c vs → Is T.the-row c (LL.val T.the-type T′.the-laws c ∷ [])
 same-is c vs g = LL.owes T.the-type T′.the-laws c (LL.owed T.the-type T′.the-laws c vs g)
 
+-- where the buffers' bytes begin in a record
+abbrev at-rows : ℕ
+at-rows = size Control-row′.mir
+
+-- the machine values of the buffers' bytes
+abbrev values : List Contents → List Val
+values rows = map (LL.tuple-val Row.the-type Row′.the-laws) (map (Row.the-type .to) rows)
+
 -- a change at place 16 is one of the control state alone
 unplaced : (c : Controller) (x : Change) → Holds (eqb (x .place) 16) → record { control = x .control; rows = c .rows } ≡ changed c x .next
 unplaced c x t = ap (λ (rows : List Contents). record { control = x .control; rows = rows }) (sym (placed-none (c .rows) (x .place) (x .bytes) (eqb→eq (x .place) 16 t)))
 
--- the code of the two arms
-abbrev code-1 : Bodyᴹ
-code-1 = assignᴹ (placeᴹ 1 (deref T′.mir ∷ fieldᴹ 0 ∷ [])) (rvOpd (copyᴹ (placeᴹ 2 (fieldᴹ 0 ∷ []))))
+-- the code of the arms
+abbrev code-ruling : Bodyᴹ
+code-ruling = assignᴹ (placeᴹ 1 (deref T′.mir ∷ fieldᴹ 0 ∷ [])) (rvOpd (copyᴹ (placeᴹ 2 (fieldᴹ 0 ∷ []))))
 
-abbrev code-2 : Bodyᴹ
-code-2 = seqᴹ (assignᴹ (placeᴹ 5 []) (rvOpd (copyᴹ (placeᴹ 1 (deref T′.mir ∷ []))))) (seqᴹ (callᴹ #after (copyᴹ (placeᴹ 5 []) ∷ copyᴹ (placeᴹ 2 []) ∷ []) (placeᴹ 4 [])) (assignᴹ (placeᴹ 1 (deref T′.mir ∷ [])) (rvOpd (copyᴹ (placeᴹ 4 [])))))
+abbrev code-placed : Bodyᴹ
+code-placed = assignᴹ (placeᴹ 8 (deref Row′.mir ∷ [])) (rvOpd (copyᴹ (placeᴹ 5 [])))
+
+abbrev code-placing : Bodyᴹ
+code-placing = seqᴹ (assignᴹ (placeᴹ 3 []) (op1 (cast unsigned unsigned w64) (copyᴹ (placeᴹ 2 (fieldᴹ 1 ∷ []))))) (seqᴹ code-ruling (seqᴹ (assignᴹ (placeᴹ 5 []) (aggregate ((copyᴹ (placeᴹ 2 (fieldᴹ 2 ∷ []))) ∷ []))) (seqᴹ (assignᴹ (placeᴹ 6 []) (op2 (mul unsigned) (copyᴹ (placeᴹ 3 [])) (intᴹ w64 14))) (seqᴹ (assignᴹ (placeᴹ 7 []) (addrOf (placeᴹ 1 (deref T′.mir ∷ fieldᴹ 1 ∷ [])))) (seqᴹ (assignᴹ (placeᴹ 8 []) (op2 offset (copyᴹ (placeᴹ 7 [])) (copyᴹ (placeᴹ 6 [])))) code-placed)))))
+
+abbrev code-changing : Bodyᴹ
+code-changing = seqᴹ (assignᴹ (placeᴹ 11 []) (rvOpd (copyᴹ (placeᴹ 1 (deref T′.mir ∷ []))))) (seqᴹ (callᴹ #after ((copyᴹ (placeᴹ 11 [])) ∷ (copyᴹ (placeᴹ 2 [])) ∷ []) (placeᴹ 10 [])) (assignᴹ (placeᴹ 1 (deref T′.mir ∷ [])) (rvOpd (copyᴹ (placeᴹ 10 [])))))
+
+abbrev code-other : Bodyᴹ
+code-other = seqᴹ (assignᴹ (placeᴹ 9 []) (op2 eq (copyᴹ (placeᴹ 2 (fieldᴹ 1 ∷ []))) (intᴹ w8 16))) (condᴹ (copyᴹ (placeᴹ 9 [])) code-ruling code-changing)
 
 module _ {M : Type 1} (𝓤 : URA M) (H : Heap 𝓤) (A : Atoms 𝓤) (W : Given 𝓤 H A) (at-mem : Memory → SProp 𝓤) (run : Routine → Fun 𝓤) (κ : Lft) (q : Share) (b o : ℕ) (γ : GName) (h : Controller) (x : Change) (x-is : Is S.the-row x (LL.val S.the-type S′.the-laws x ∷ [])) where
   abbrev rec : Controller → RefT Controller
@@ -126,12 +159,51 @@ module _ {M : Type 1} (𝓤 : URA M) (H : Heap 𝓤) (A : Atoms 𝓤) (W : Given
   answer-is : Is Answer-row.the-row (x .answer) (EL.val Answer-row.the-type Answer-row′.the-laws (x .answer) ∷ [])
   answer-is = LL.owed S.the-type S′.the-laws x _ x-is .1 .1 .1 .0
 
+  place-fits : Holds (ltb (x .place) 16) → x .place < 2 ^ 64
+  place-fits t = let n = ltb→lt (x .place) 16 t in omega arith
+
+  byte-fits : Holds (ltb (x .place) 16) → x .place * 14 < 2 ^ 64
+  byte-fits t = let n = ltb→lt (x .place) 16 t in omega arith
+
+  -- the buffer's bytes as they are after the change
+  abbrev row : Contents
+  row = record { bytes = x .bytes }
+
+  row-is : Is Row.the-row row (LL.val Row.the-type Row′.the-laws row ∷ [])
+  row-is = LL.owes Row.the-type Row′.the-laws row (LL.owed S.the-type S′.the-laws x _ x-is .1 .1 .0, tt)
+
   -- the record with the change's control state
   abbrev ruled : Controller
   ruled = record { control = x .control; rows = h .rows }
 
   ruled-is : Is T.the-row h (LL.val T.the-type T′.the-laws h ∷ []) → Is T.the-row ruled (LL.val T.the-type T′.the-laws ruled ∷ [])
   ruled-is was = LL.owes T.the-type T′.the-laws ruled (control-is, LL.owed T.the-type T′.the-laws h _ was .1)
+
+  -- the same with the buffer's bytes
+  abbrev stored : Controller
+  stored = record { control = x .control; rows = set (h .rows) (x .place) row }
+
+  stored-so : Holds (ltb (x .place) 16) → stored ≡ changed h x .next
+  stored-so t = ap (λ (rows : List Contents). record { control = x .control; rows = rows }) (sym (placed-one (h .rows) (x .place) (x .bytes) (ltb→lt (x .place) 16 t)))
+
+  values-set : set (values (h .rows)) (x .place) (LL.val Row.the-type Row′.the-laws row) ≡ values (set (h .rows) (x .place) row)
+  values-set = map-set (LL.tuple-val Row.the-type Row′.the-laws) (map (Row.the-type .to) (h .rows)) (x .place) (Row.the-type .to row) ∙ ap (map (LL.tuple-val Row.the-type Row′.the-laws)) (map-set (Row.the-type .to) (h .rows) (x .place) row)
+
+  stored-is : Is T.the-row h (LL.val T.the-type T′.the-laws h ∷ []) → Is T.the-row stored (LL.val T.the-type T′.the-laws stored ∷ [])
+  stored-is was = LL.owes T.the-type T′.the-laws stored (
+    control-is,
+    (
+      subst (λ (ys : List _). Is (Array (Struct (shape Row.the-type)) 16) ys (arrayVal (map (LL.tuple-val Row.the-type Row′.the-laws) ys) ∷ [])) (map-set (Row.the-type .to) (h .rows) (x .place) row)
+          (array-set (Struct (shape Row.the-type)) (LL.tuple-val Row.the-type Row′.the-laws) (LL.tuple-tells Row.the-type Row′.the-laws) 16 (map (Row.the-type .to) (h .rows)) _ (x .place) (Row.the-type .to row) (LL.owed T.the-type T′.the-laws h _ was .1 .0) row-is),
+      tt,
+    ),
+  )
+
+  sixteen-values : Is T.the-row h (LL.val T.the-type T′.the-laws h ∷ []) → length (values (h .rows)) ≡ 16
+  sixteen-values was = length-map (map (Row.the-type .to) (h .rows)) (LL.tuple-val Row.the-type Row′.the-laws) ∙ LL.owed T.the-type T′.the-laws h _ was .1 .0 .1 .0 .1
+
+  in-rows : Is T.the-row h (LL.val T.the-type T′.the-laws h ∷ []) → Holds (ltb (x .place) 16) → x .place < length (values (h .rows))
+  in-rows was t = subst (λ (n : ℕ). x .place < n) (sym (sixteen-values was)) (ltb→lt (x .place) 16 t)
 
   -- what is had at exit
   abbrev Had : Controller → List (Item 𝓤)
@@ -155,71 +227,99 @@ module _ {M : Type 1} (𝓤 : URA M) (H : Heap 𝓤) (A : Atoms 𝓤) (W : Given
   asked was = qed W [] ∵ nothing ! $ nothing ! $ owned ! S.the-row (Is S.the-row) (LL.makes S.the-type S′.the-plain 𝓤 H A) x _ x-is $ fjoin ! $ owned ! T.the-row (Is T.the-row) (LL.makes T.the-type T′.the-plain 𝓤 H A) h _ was $ fjoin ! $ move ! (1 ∷ 0 ∷ []) $ join ! $ nothing ! $ move ! (1 ∷ 0 ∷ []) $ join ! $ done !
 
   module _ (C : Calls 𝓤 H) (Λ : Loops 𝓤 H) (fm : FmC 𝓤 H (W .laws) C) (known-after : Triple 𝓤 (C #after) (After 𝓤 H A at-mem run)) where
-    module _ (l0 l1 l2 l3 l4 l5 : ℕ) where
+    module _ (l0 l1 l2 l3 l4 l5 l6 l7 l8 l9 l10 l11 : ℕ) where
       -- the locals, and what frees them
       abbrev En : Env 𝓤 H
-      En = (Answer-row′.mir, l0) ∷ (tyRef (named 0) mut rec-ty, l1) ∷ (out-ty, l2) ∷ (tyBool, l3) ∷ (T′.mir, l4) ∷ (T′.mir, l5) ∷ []
+      En = (Answer-row′.mir, l0) ∷ (tyRef (named 0) mut rec-ty, l1) ∷ (out-ty, l2) ∷ (tyInt w64, l3) ∷ (tyBool, l4) ∷ (Row′.mir, l5) ∷ (tyInt w64, l6) ∷ (tyPtr, l7) ∷ (tyPtr, l8) ∷ (tyBool, l9) ∷ (T′.mir, l10) ∷ (T′.mir, l11) ∷ []
 
       abbrev Dies : List (Item 𝓤)
-      Dies = ‵ (fdies Answer-row′.mir l0) ∷ ‵ (fdies (tyRef (named 0) mut rec-ty) l1) ∷ ‵ (fdies out-ty l2) ∷ ‵ (fdies tyBool l3) ∷ ‵ (fdies T′.mir l4) ∷ ‵ (fdies T′.mir l5) ∷ []
+      Dies = ‵ (fdies Answer-row′.mir l0) ∷ ‵ (fdies (tyRef (named 0) mut rec-ty) l1) ∷ ‵ (fdies out-ty l2) ∷ ‵ (fdies (tyInt w64) l3) ∷ ‵ (fdies tyBool l4) ∷ ‵ (fdies Row′.mir l5) ∷ ‵ (fdies (tyInt w64) l6) ∷ ‵ (fdies tyPtr l7) ∷ ‵ (fdies tyPtr l8) ∷ ‵ (fdies tyBool l9) ∷ ‵ (fdies T′.mir l10) ∷ ‵ (fdies T′.mir l11) ∷ []
 
       -- what is left once an arm has ended
       abbrev Next : Out → SProp 𝓤
       Next = afterSeq 𝓤 H (Wp 𝓤 H C Λ En pieces.t-3 (atReturn 𝓤 H En Post)) (atReturn 𝓤 H En Post)
 
       -- the `return`
-      left : {y1 y2 y3 : Val} (c : Controller) → c ≡ changed h x .next → Sq W (‵ (fobs γ (T.the-row .coded .code c)) ∷ ‵ (fbor κ (Body (mem T.the-row) b o γ)) ∷ ‵ (flft κ q) ∷ ‵ (fat fullShare Answer-row′.mir l0 0 (EL.val Answer-row.the-type Answer-row′.the-laws (x .answer))) ∷ ‵ (fat fullShare (tyRef (named 0) mut rec-ty) l1 0 y1) ∷ ‵ (fat fullShare out-ty l2 0 y2) ∷ ‵ (fat fullShare tyBool l3 0 y3) ∷ ‵ (froom T′.mir l4 0) ∷ ‵ (froom T′.mir l5 0) ∷ Dies) (runs C Λ En pieces.t-4 (atRet En Post))
+      left : {y1 y2 y4 : Val} (c : Controller) → c ≡ changed h x .next → Sq W (‵ (fobs γ (T.the-row .coded .code c)) ∷ ‵ (fbor κ (Body (mem T.the-row) b o γ)) ∷ ‵ (flft κ q) ∷ ‵ (fat fullShare Answer-row′.mir l0 0 (EL.val Answer-row.the-type Answer-row′.the-laws (x .answer))) ∷ ‵ (fat fullShare (tyRef (named 0) mut rec-ty) l1 0 y1) ∷ ‵ (fat fullShare out-ty l2 0 y2) ∷ ‵ (froom (tyInt w64) l3 0) ∷ ‵ (fat fullShare tyBool l4 0 y4) ∷ ‵ (froom Row′.mir l5 0) ∷ ‵ (froom (tyInt w64) l6 0) ∷ ‵ (froom tyPtr l7 0) ∷ ‵ (froom tyPtr l8 0) ∷ ‵ (froom tyBool l9 0) ∷ ‵ (froom T′.mir l10 0) ∷ ‵ (froom T′.mir l11 0) ∷ Dies) (runs C Λ En pieces.t-4 (atRet En Post))
       left c e =
-          returns ! (look ! 3 refl) $ forget ! 3 refl $ forget ! 4 refl $ forget ! 5 refl $ forget ! 6 refl $
-          move ! (3 ∷ 9 ∷ []) $ free1 ! $ move ! (3 ∷ 8 ∷ []) $ free1 ! $ move ! (3 ∷ 7 ∷ []) $ free1 ! $ move ! (3 ∷ 6 ∷ []) $ free1 ! $ move ! (3 ∷ 5 ∷ []) $ free1 ! $ move ! (3 ∷ 4 ∷ []) $ free1 ! $ free0 ! $
+          returns ! (look ! 3 refl) $ forget ! 3 refl $ forget ! 4 refl $ forget ! 5 refl $ forget ! 7 refl $
+          move ! (3 ∷ 15 ∷ []) $ free1 ! $ move ! (3 ∷ 14 ∷ []) $ free1 ! $ move ! (3 ∷ 13 ∷ []) $ free1 ! $ move ! (3 ∷ 12 ∷ []) $ free1 ! $ move ! (3 ∷ 11 ∷ []) $ free1 ! $ move ! (3 ∷ 10 ∷ []) $ free1 ! $ move ! (3 ∷ 9 ∷ []) $ free1 ! $ move ! (3 ∷ 8 ∷ []) $ free1 ! $ move ! (3 ∷ 7 ∷ []) $ free1 ! $ move ! (3 ∷ 6 ∷ []) $ free1 ! $ move ! (3 ∷ 5 ∷ []) $ free1 ! $ move ! (3 ∷ 4 ∷ []) $ free1 ! $ free0 ! $
           by ! (exits c e)
 
       -- the answer, and the borrow's end at the record c
-      answered : {y3 : Val} (c : Controller) → c ≡ changed h x .next → Is T.the-row c (LL.val T.the-type T′.the-laws c ∷ []) → Sq W (‵ (cellAt fullShare (T.the-row .mir) (mach c ∷ []) b o) ∷ ‵ (fobor κ q (Body (mem T.the-row) b o γ)) ∷ ‵ (fobs γ (T.the-row .coded .code h)) ∷ ‵ (fauth γ (T.the-row .coded .code h)) ∷ ‵ (froom Answer-row′.mir l0 0) ∷ ‵ (fat fullShare (tyRef (named 0) mut rec-ty) l1 0 (vptr b o)) ∷ ‵ (fat fullShare out-ty l2 0 (LL.val S.the-type S′.the-laws x)) ∷ ‵ (fat fullShare tyBool l3 0 y3) ∷ ‵ (froom T′.mir l4 0) ∷ ‵ (froom T′.mir l5 0) ∷ Dies) (runs C Λ En pieces.t-3 (atRet En Post))
+      answered : {y4 : Val} (c : Controller) → c ≡ changed h x .next → Is T.the-row c (LL.val T.the-type T′.the-laws c ∷ []) → Sq W (‵ (cellAt fullShare (T.the-row .mir) (mach c ∷ []) b o) ∷ ‵ (fobor κ q (Body (mem T.the-row) b o γ)) ∷ ‵ (fobs γ (T.the-row .coded .code h)) ∷ ‵ (fauth γ (T.the-row .coded .code h)) ∷ ‵ (froom Answer-row′.mir l0 0) ∷ ‵ (fat fullShare (tyRef (named 0) mut rec-ty) l1 0 (vptr b o)) ∷ ‵ (fat fullShare out-ty l2 0 (LL.val S.the-type S′.the-laws x)) ∷ ‵ (froom (tyInt w64) l3 0) ∷ ‵ (fat fullShare tyBool l4 0 y4) ∷ ‵ (froom Row′.mir l5 0) ∷ ‵ (froom (tyInt w64) l6 0) ∷ ‵ (froom tyPtr l7 0) ∷ ‵ (froom tyPtr l8 0) ∷ ‵ (froom tyBool l9 0) ∷ ‵ (froom T′.mir l10 0) ∷ ‵ (froom T′.mir l11 0) ∷ Dies) (runs C Λ En pieces.t-3 (atRet En Post))
       answered c e now-is =
           assigns ! (of-opd ! (load ! (from ! (fld ! refl (stop !))) (look-in ! 6 (sub ! 3 refl (whole !))))) (from ! (stop !)) (init ! 4 refl (EL.lawful Answer-row.the-type Answer-row′.the-laws 𝓤 H A W tt .typed (x .answer) _ answer-is .0)) $
           owned ! T.the-row (Is T.the-row) (LL.makes T.the-type T′.the-plain 𝓤 H A) c _ now-is $ move ! (1 ∷ 0 ∷ 2 ∷ 3 ∷ 4 ∷ []) $ closes ! tt T.the-row c (mach c ∷ []) b o $
           left c e
 
       -- the record is copied out, changed, and stored
-      arm-2 : {y3 : Val} → Is T.the-row h (LL.val T.the-type T′.the-laws h ∷ []) → Holds (not (eqb (x .place) 16)) → Sq W (‵ (cellAt fullShare (T.the-row .mir) (mach h ∷ []) b o) ∷ ‵ (fobor κ q (Body (mem T.the-row) b o γ)) ∷ ‵ (fobs γ (T.the-row .coded .code h)) ∷ ‵ (fauth γ (T.the-row .coded .code h)) ∷ ‵ (froom Answer-row′.mir l0 0) ∷ ‵ (fat fullShare (tyRef (named 0) mut rec-ty) l1 0 (vptr b o)) ∷ ‵ (fat fullShare out-ty l2 0 (LL.val S.the-type S′.the-laws x)) ∷ ‵ (fat fullShare tyBool l3 0 y3) ∷ ‵ (froom T′.mir l4 0) ∷ ‵ (froom T′.mir l5 0) ∷ Dies) (runs C Λ En code-2 (anyQ Next))
-      arm-2 was t =
-          assigns ! (of-opd ! (load ! (from ! (hop ! (look ! 5 refl) (stop !))) (look-raw ! 0 refl))) (from ! (stop !)) (init ! 9 refl (LL.lawful T.the-type T′.the-laws 𝓤 H A W .typed h _ was .0)) $
+      changing : {y4 y9 : Val} → Is T.the-row h (LL.val T.the-type T′.the-laws h ∷ []) → Holds (not (eqb (x .place) 16)) → Sq W (‵ (cellAt fullShare (T.the-row .mir) (mach h ∷ []) b o) ∷ ‵ (fobor κ q (Body (mem T.the-row) b o γ)) ∷ ‵ (fobs γ (T.the-row .coded .code h)) ∷ ‵ (fauth γ (T.the-row .coded .code h)) ∷ ‵ (froom Answer-row′.mir l0 0) ∷ ‵ (fat fullShare (tyRef (named 0) mut rec-ty) l1 0 (vptr b o)) ∷ ‵ (fat fullShare out-ty l2 0 (LL.val S.the-type S′.the-laws x)) ∷ ‵ (froom (tyInt w64) l3 0) ∷ ‵ (fat fullShare tyBool l4 0 y4) ∷ ‵ (froom Row′.mir l5 0) ∷ ‵ (froom (tyInt w64) l6 0) ∷ ‵ (froom tyPtr l7 0) ∷ ‵ (froom tyPtr l8 0) ∷ ‵ (fat fullShare tyBool l9 0 y9) ∷ ‵ (froom T′.mir l10 0) ∷ ‵ (froom T′.mir l11 0) ∷ Dies) (runs C Λ En code-changing (anyQ Next))
+      changing was t =
+          assigns ! (of-opd ! (load ! (from ! (hop ! (look ! 5 refl) (stop !))) (look-raw ! 0 refl))) (from ! (stop !)) (init ! 15 refl (LL.lawful T.the-type T′.the-laws 𝓤 H A W .typed h _ was .0)) $
           use0 W (raw ((After 𝓤 H A at-mem run) .pre to)) (asked was) $
-          calls-at ! fm (After 𝓤 H A at-mem run) known-after to (and-then ! (load ! (from ! (stop !)) (look ! 10 refl)) (and-then ! (load ! (from ! (stop !)) (look ! 7 refl)) (no-more !))) (λ u.
+          calls-at ! fm (After 𝓤 H A at-mem run) known-after to (and-then ! (load ! (from ! (stop !)) (look ! 16 refl)) (and-then ! (load ! (from ! (stop !)) (look ! 7 refl)) (no-more !))) (λ u.
           use1 W (later (some (λ (c : Controller). (‵ ftrue ⊛ ‵ (T.the-row .own c (u ∷ []))) ⊛ raw (ensured 𝓤 H A after.ended (after.clauses 𝓤 H A at-mem run) tt args tt c)))) (id⊢ 𝓤 _) $ await ! tt $ pick ! (λ c.
           split ! $ move ! (1 ∷ []) $ use1 W (some (λ (ws : Lasts after.ended tt args). ‵ (lasts after.ended tt args ws) ⊛ raw (fact 𝓤 (c ≡ changed h x .next)))) (id⊢ 𝓤 _) $ pick ! (λ ws.
           split ! $ move ! (1 ∷ []) $ heard ! (c ≡ changed h x .next) (λ e. drop ! $ split ! $ drop ! $
           peeks ! T.the-row (Is T.the-row) (shows 𝓤 H A T.the-row) c (u ∷ []) (λ now-is. drop ! $
-          land ! (from ! (stop !)) (init ! 8 refl (LL.lawful T.the-type T′.the-laws 𝓤 H A W .typed c _ now-is .0)) $ rewrite ! 8 (λ (u : Val). ‵ (fat fullShare T′.mir l4 0 u)) (ap only (LL.tells T.the-type T′.the-laws c _ now-is)) refl $
-          assigns-last ! (of-opd ! (load ! (from ! (stop !)) (look ! 8 refl))) (from ! (hop ! (look ! 5 refl) (stop !))) (store-raw ! 0 refl (LL.lawful T.the-type T′.the-laws 𝓤 H A W .typed c _ ((same-is c _ now-is)) .0)) $ exec ! C Λ En pieces.t-3 (atRet En Post) $
-          forget ! 8 refl $ forget ! 9 refl $ answered c e (same-is c _ now-is))))))
+          land ! (from ! (stop !)) (init ! 14 refl (LL.lawful T.the-type T′.the-laws 𝓤 H A W .typed c _ now-is .0)) $ rewrite ! 14 (λ (u : Val). ‵ (fat fullShare T′.mir l10 0 u)) (ap only (LL.tells T.the-type T′.the-laws c _ now-is)) refl $
+          assigns-last ! (of-opd ! (load ! (from ! (stop !)) (look ! 14 refl))) (from ! (hop ! (look ! 5 refl) (stop !))) (store-raw ! 0 refl (LL.lawful T.the-type T′.the-laws 𝓤 H A W .typed c _ ((same-is c _ now-is)) .0)) $ exec ! C Λ En pieces.t-3 (atRet En Post) $
+          forget ! 13 refl $ forget ! 14 refl $ forget ! 15 refl $ answered c e (same-is c _ now-is))))))
 
       -- the control state is stored
-      arm-1 : {y3 : Val} → Is T.the-row h (LL.val T.the-type T′.the-laws h ∷ []) → Holds (eqb (x .place) 16) → Sq W (‵ (cellAt fullShare (T.the-row .mir) (mach h ∷ []) b o) ∷ ‵ (fobor κ q (Body (mem T.the-row) b o γ)) ∷ ‵ (fobs γ (T.the-row .coded .code h)) ∷ ‵ (fauth γ (T.the-row .coded .code h)) ∷ ‵ (froom Answer-row′.mir l0 0) ∷ ‵ (fat fullShare (tyRef (named 0) mut rec-ty) l1 0 (vptr b o)) ∷ ‵ (fat fullShare out-ty l2 0 (LL.val S.the-type S′.the-laws x)) ∷ ‵ (fat fullShare tyBool l3 0 y3) ∷ ‵ (froom T′.mir l4 0) ∷ ‵ (froom T′.mir l5 0) ∷ Dies) (runs C Λ En code-1 (anyQ Next))
-      arm-1 was t =
+      ruling : {y4 y9 : Val} → Is T.the-row h (LL.val T.the-type T′.the-laws h ∷ []) → Holds (eqb (x .place) 16) → Sq W (‵ (cellAt fullShare (T.the-row .mir) (mach h ∷ []) b o) ∷ ‵ (fobor κ q (Body (mem T.the-row) b o γ)) ∷ ‵ (fobs γ (T.the-row .coded .code h)) ∷ ‵ (fauth γ (T.the-row .coded .code h)) ∷ ‵ (froom Answer-row′.mir l0 0) ∷ ‵ (fat fullShare (tyRef (named 0) mut rec-ty) l1 0 (vptr b o)) ∷ ‵ (fat fullShare out-ty l2 0 (LL.val S.the-type S′.the-laws x)) ∷ ‵ (froom (tyInt w64) l3 0) ∷ ‵ (fat fullShare tyBool l4 0 y4) ∷ ‵ (froom Row′.mir l5 0) ∷ ‵ (froom (tyInt w64) l6 0) ∷ ‵ (froom tyPtr l7 0) ∷ ‵ (froom tyPtr l8 0) ∷ ‵ (fat fullShare tyBool l9 0 y9) ∷ ‵ (froom T′.mir l10 0) ∷ ‵ (froom T′.mir l11 0) ∷ Dies) (runs C Λ En code-ruling (anyQ Next))
+      ruling was t =
           use1 W (‵ (fat fullShare T′.mir b o (mach h))) (W .laws .raw-at fullShare T′.mir b o (mach h)) $
           assigns-last ! (of-opd ! (load ! (from ! (fld ! refl (stop !))) (look-in ! 6 (sub ! 0 refl (whole !))))) (from ! (hop ! (look ! 5 refl) (fld ! refl (stop !)))) (store-in ! 0 (sub ! 0 refl (whole !)) (LL.lawful Control-row.the-type Control-row′.the-laws 𝓤 H A W .typed (x .control) _ control-is .0)) $ exec ! C Λ En pieces.t-3 (atRet En Post) $
-          use1 W (‵ (cellAt fullShare (T.the-row .mir) (mach ruled ∷ []) b o)) (W .laws .at-raw fullShare T′.mir b o (mach ruled)) $ answered ruled (unplaced h x t) (ruled-is was)
+          use1 W (‵ (cellAt fullShare (T.the-row .mir) (mach ruled ∷ []) b o)) (W .laws .at-raw fullShare T′.mir b o (mach ruled)) $ forget ! 13 refl $ answered ruled (unplaced h x t) (ruled-is was)
+
+      -- the second test
+      other : {y4 : Val} → Is T.the-row h (LL.val T.the-type T′.the-laws h ∷ []) → Holds (not (ltb (x .place) 16)) → Sq W (‵ (cellAt fullShare (T.the-row .mir) (mach h ∷ []) b o) ∷ ‵ (fobor κ q (Body (mem T.the-row) b o γ)) ∷ ‵ (fobs γ (T.the-row .coded .code h)) ∷ ‵ (fauth γ (T.the-row .coded .code h)) ∷ ‵ (froom Answer-row′.mir l0 0) ∷ ‵ (fat fullShare (tyRef (named 0) mut rec-ty) l1 0 (vptr b o)) ∷ ‵ (fat fullShare out-ty l2 0 (LL.val S.the-type S′.the-laws x)) ∷ ‵ (froom (tyInt w64) l3 0) ∷ ‵ (fat fullShare tyBool l4 0 y4) ∷ ‵ (froom Row′.mir l5 0) ∷ ‵ (froom (tyInt w64) l6 0) ∷ ‵ (froom tyPtr l7 0) ∷ ‵ (froom tyPtr l8 0) ∷ ‵ (froom tyBool l9 0) ∷ ‵ (froom T′.mir l10 0) ∷ ‵ (froom T′.mir l11 0) ∷ Dies) (runs C Λ En code-other (anyQ Next))
+      other was n =
+          assigns ! (bin ! (load ! (from ! (fld ! refl (stop !))) (look-in ! 6 (sub ! 1 refl (whole !)))) (lit ! tt) tt) (from ! (stop !)) (init ! 13 refl (tt, tt)) $
+          branches ! (load ! (from ! (stop !)) (look ! 13 refl))
+          (λ t. ruling was t)
+          (λ t. changing was t)
+
+      -- the bytes are stored there
+      placed-there : {y3 y4 y6 y7 : Val} → Holds (ltb (x .place) 16) → Is T.the-row h (LL.val T.the-type T′.the-laws h ∷ []) → Sq W (‵ (fat fullShare T′.mir b o (mach ruled)) ∷ ‵ (fobor κ q (Body (mem T.the-row) b o γ)) ∷ ‵ (fobs γ (T.the-row .coded .code h)) ∷ ‵ (fauth γ (T.the-row .coded .code h)) ∷ ‵ (froom Answer-row′.mir l0 0) ∷ ‵ (fat fullShare (tyRef (named 0) mut rec-ty) l1 0 (vptr b o)) ∷ ‵ (fat fullShare out-ty l2 0 (LL.val S.the-type S′.the-laws x)) ∷ ‵ (fat fullShare (tyInt w64) l3 0 y3) ∷ ‵ (fat fullShare tyBool l4 0 y4) ∷ ‵ (fat fullShare Row′.mir l5 0 (LL.val Row.the-type Row′.the-laws row)) ∷ ‵ (fat fullShare (tyInt w64) l6 0 y6) ∷ ‵ (fat fullShare tyPtr l7 0 y7) ∷ ‵ (fat fullShare tyPtr l8 0 (vptr b (x .place * 14 + (o + at-rows)))) ∷ ‵ (froom tyBool l9 0) ∷ ‵ (froom T′.mir l10 0) ∷ ‵ (froom T′.mir l11 0) ∷ Dies) (runs C Λ En code-placed (anyQ Next))
+      placed-there t was =
+          rewrite ! 12 (λ (m : ℕ). ‵ (fat fullShare tyPtr l8 0 (vptr b m))) (sym (place-is 14 (o + at-rows) (x .place))) refl $
+          assigns-last ! (of-opd ! (load ! (from ! (stop !)) (look ! 9 refl))) (from ! (hop ! (look ! 12 refl) (stop !))) (store-in ! 0 (elem ! (values (h .rows)) (x .place) (LL.val Row.the-type Row′.the-laws row) (in-rows was t) (sixteen-values was) (sub ! 1 refl (whole !))) (LL.lawful Row.the-type Row′.the-laws 𝓤 H A W .typed row _ row-is .0)) $ exec ! C Λ En pieces.t-3 (atRet En Post) $
+          rewrite ! 0 (λ (us : List Val). ‵ (fat fullShare T′.mir b o (vstruct (vcons (LL.val Control-row.the-type Control-row′.the-laws (x .control)) (vcons (arrayVal us) vnil))))) values-set refl $
+          use1 W (‵ (cellAt fullShare (T.the-row .mir) (mach stored ∷ []) b o)) (W .laws .at-raw fullShare T′.mir b o (mach stored)) $ forget ! 7 refl $ forget ! 9 refl $ forget ! 10 refl $ forget ! 11 refl $ forget ! 12 refl $ answered stored (stored-so t) (stored-is was)
+
+      -- the control state is stored, and the place of the buffer's bytes is had
+      placing : {y4 : Val} → Is T.the-row h (LL.val T.the-type T′.the-laws h ∷ []) → Holds (ltb (x .place) 16) → Sq W (‵ (cellAt fullShare (T.the-row .mir) (mach h ∷ []) b o) ∷ ‵ (fobor κ q (Body (mem T.the-row) b o γ)) ∷ ‵ (fobs γ (T.the-row .coded .code h)) ∷ ‵ (fauth γ (T.the-row .coded .code h)) ∷ ‵ (froom Answer-row′.mir l0 0) ∷ ‵ (fat fullShare (tyRef (named 0) mut rec-ty) l1 0 (vptr b o)) ∷ ‵ (fat fullShare out-ty l2 0 (LL.val S.the-type S′.the-laws x)) ∷ ‵ (froom (tyInt w64) l3 0) ∷ ‵ (fat fullShare tyBool l4 0 y4) ∷ ‵ (froom Row′.mir l5 0) ∷ ‵ (froom (tyInt w64) l6 0) ∷ ‵ (froom tyPtr l7 0) ∷ ‵ (froom tyPtr l8 0) ∷ ‵ (froom tyBool l9 0) ∷ ‵ (froom T′.mir l10 0) ∷ ‵ (froom T′.mir l11 0) ∷ Dies) (runs C Λ En code-placing (anyQ Next))
+      placing was t =
+          use1 W (‵ (fat fullShare T′.mir b o (mach h))) (W .laws .raw-at fullShare T′.mir b o (mach h)) $
+          assigns ! (un ! (load ! (from ! (fld ! refl (stop !))) (look-in ! 6 (sub ! 1 refl (whole !)))) (record { fits = place-fits t })) (from ! (stop !)) (init ! 7 refl (tt, record { fits = place-fits t })) $
+          assigns ! (of-opd ! (load ! (from ! (fld ! refl (stop !))) (look-in ! 6 (sub ! 0 refl (whole !))))) (from ! (hop ! (look ! 5 refl) (fld ! refl (stop !)))) (store-in ! 0 (sub ! 0 refl (whole !)) (LL.lawful Control-row.the-type Control-row′.the-laws 𝓤 H A W .typed (x .control) _ control-is .0)) $
+          assigns ! (agg ! (and-then ! (load ! (from ! (fld ! refl (stop !))) (look-in ! 6 (sub ! 2 refl (whole !)))) (no-more !))) (from ! (stop !)) (init ! 9 refl (LL.lawful Row.the-type Row′.the-laws 𝓤 H A W .typed row _ row-is .0)) $
+          assigns ! (bin ! (load ! (from ! (stop !)) (look ! 7 refl)) (lit ! tt) (record { fits = byte-fits t })) (from ! (stop !)) (init ! 10 refl (tt, record { fits = byte-fits t })) $
+          assigns ! (addr ! (from ! (hop ! (look ! 5 refl) (fld ! refl (stop !))))) (from ! (stop !)) (init ! 11 refl (tt, tt)) $
+          assigns ! (bin ! (load ! (from ! (stop !)) (look ! 11 refl)) (load ! (from ! (stop !)) (look ! 10 refl)) tt) (from ! (stop !)) (init ! 12 refl (tt, tt)) $
+          placed-there t was
 
       -- the borrow is opened, and the place is tested
-      opened : Sq W (‵ (MutRef (named 0) κ T.the-row .own (rec h) (vptr b o ∷ [])) ∷ ‵ (flft κ q) ∷ ‵ (froom Answer-row′.mir l0 0) ∷ ‵ (fat fullShare (tyRef (named 0) mut rec-ty) l1 0 (vptr b o)) ∷ ‵ (fat fullShare out-ty l2 0 (LL.val S.the-type S′.the-laws x)) ∷ ‵ (froom tyBool l3 0) ∷ ‵ (froom T′.mir l4 0) ∷ ‵ (froom T′.mir l5 0) ∷ Dies) (runs C Λ En pieces.t-1 (atRet En Post))
+      opened : Sq W (‵ (MutRef (named 0) κ T.the-row .own (rec h) (vptr b o ∷ [])) ∷ ‵ (flft κ q) ∷ ‵ (froom Answer-row′.mir l0 0) ∷ ‵ (fat fullShare (tyRef (named 0) mut rec-ty) l1 0 (vptr b o)) ∷ ‵ (fat fullShare out-ty l2 0 (LL.val S.the-type S′.the-laws x)) ∷ ‵ (froom (tyInt w64) l3 0) ∷ ‵ (froom tyBool l4 0) ∷ ‵ (froom Row′.mir l5 0) ∷ ‵ (froom (tyInt w64) l6 0) ∷ ‵ (froom tyPtr l7 0) ∷ ‵ (froom tyPtr l8 0) ∷ ‵ (froom tyBool l9 0) ∷ ‵ (froom T′.mir l10 0) ∷ ‵ (froom T′.mir l11 0) ∷ Dies) (runs C Λ En pieces.t-1 (atRet En Post))
       opened =
           fsplit3 ! $ drop ! $
           opens ! tt T.the-row {h = h} b o (λ vs. spelt ! T.the-row (Is T.the-row) (shows 𝓤 H A T.the-row) (LL.vals T.the-type T′.the-laws) (LL.tells T.the-type T′.the-laws) fullShare h vs b o $
           move ! (1 ∷ []) $ peeks ! T.the-row (Is T.the-row) (shows 𝓤 H A T.the-row) h (mach h ∷ []) (λ was. drop ! $
-          assigns ! (bin ! (load ! (from ! (fld ! refl (stop !))) (look-in ! 6 (sub ! 1 refl (whole !)))) (lit ! tt) tt) (from ! (stop !)) (init ! 7 refl (tt, tt)) $
-          first ! $ branches ! (load ! (from ! (stop !)) (look ! 7 refl))
-          (λ t. arm-1 was t)
-          (λ t. arm-2 was t)))
+          assigns ! (bin ! (load ! (from ! (fld ! refl (stop !))) (look-in ! 6 (sub ! 1 refl (whole !)))) (lit ! tt) tt) (from ! (stop !)) (init ! 8 refl (tt, tt)) $
+          first ! $ branches ! (load ! (from ! (stop !)) (look ! 8 refl))
+          (λ t. placing was t)
+          (λ t. other was t)))
 
     walk : ent 𝓤 (onEntry 𝓤 H A this.signature (κ, tt) (q, tt) a at) (WpFn 𝓤 H C Λ code.function (vptr b o ∷ LL.val S.the-type S′.the-laws x ∷ []) Post)
     walk =
         qed W ((‵ (flft κ q) ⊛ ‵ ftrue) ∷ ‵ (owns (MutRef (named 0) κ T.the-row ∷ S.the-row ∷ []) a at) ∷ []) ∵ split ! $ move ! (2 ∷ []) $ fsplit ! $ move ! (1 ∷ []) $ fsplit ! $ drop ! $ keep ! (1 ∷ 2 ∷ []) $
         enter ! C Λ code.function (vptr b o ∷ LL.val S.the-type S′.the-laws x ∷ []) _ $
-        alloc1 ! (λ l0. alloc1 ! (λ l1. alloc1 ! (λ l2. alloc1 ! (λ l3. alloc1 ! (λ l4. alloc1 ! (λ l5. alloc0 ! $ params1 ! $
-        pass1 ! (init ! 8 refl (tt, tt)) $ pass1 ! (init ! 6 refl (LL.lawful S.the-type S′.the-laws 𝓤 H A W .typed x _ x-is .0)) $ pass0 ! $
-        move ! (12 ∷ 13 ∷ 10 ∷ 8 ∷ 6 ∷ 4 ∷ 2 ∷ 0 ∷ 11 ∷ 9 ∷ 7 ∷ 5 ∷ 3 ∷ 1 ∷ []) $ opened l0 l1 l2 l3 l4 l5))))))
+        alloc1 ! (λ l0. alloc1 ! (λ l1. alloc1 ! (λ l2. alloc1 ! (λ l3. alloc1 ! (λ l4. alloc1 ! (λ l5. alloc1 ! (λ l6. alloc1 ! (λ l7. alloc1 ! (λ l8. alloc1 ! (λ l9. alloc1 ! (λ l10. alloc1 ! (λ l11. alloc0 ! $ params1 ! $
+        pass1 ! (init ! 20 refl (tt, tt)) $ pass1 ! (init ! 18 refl (LL.lawful S.the-type S′.the-laws 𝓤 H A W .typed x _ x-is .0)) $ pass0 ! $
+        move ! (24 ∷ 25 ∷ 22 ∷ 20 ∷ 18 ∷ 16 ∷ 14 ∷ 12 ∷ 10 ∷ 8 ∷ 6 ∷ 4 ∷ 2 ∷ 0 ∷ 23 ∷ 21 ∷ 19 ∷ 17 ∷ 15 ∷ 13 ∷ 11 ∷ 9 ∷ 7 ∷ 5 ∷ 3 ∷ 1 ∷ []) $ opened l0 l1 l2 l3 l4 l5 l6 l7 l8 l9 l10 l11))))))))))))
 
 module _ {M : Type 1} (𝓤 : URA M) (H : Heap 𝓤) (A : Atoms 𝓤) (W : Given 𝓤 H A) (at-mem : Memory → SProp 𝓤) (run : Routine → Fun 𝓤) where
   walks : (C : Calls 𝓤 H) (Λ : Loops 𝓤 H) → FmC 𝓤 H (W .laws) C → Triple 𝓤 (C #after) (After 𝓤 H A at-mem run) → Walks 𝓤 H A this.ended stayed (WpFn 𝓤 H C Λ code.function) (this.clauses 𝓤 H A at-mem run)

@@ -1,5 +1,5 @@
 -- `lent::step` meets its contract: a walk of its MIR. The switch goes by cases on the call: the tag is then a numeral, and only the arm that runs is walked. In an arm the borrow is opened for a copy of the record and closed at the same record.
--- A read's answer is had from the copy. For any other call the copy gives the change, and the reference goes on to `carry` at its own lifetime, which gives back what says its last value. The room goes on to `planned` in the same way; where
+-- A read's answer is had from the copy. For any other call the copy gives the change, and the reference goes on to `carry` at its own lifetime, which gives back what says its last value. The room goes on to `plan_slot` in the same way; where
 -- it is not passed, its last value is the one that it has. All that the proof knows of these functions is that they meet their contracts. Written by tools/gen_lent.py.
 -- Assumes nothing.
 use mathlib.Core.Path.{_≡_, refl, ap, sym, _∙_, subst}
@@ -46,13 +46,12 @@ use denote.Triple.Clauses.{ensured, lasts, Lasts}
 use denote.Triple.Table.{entered, cited}
 use denote.Triple.Walked.{says, Stays, stay-ref, gave-ref, stay-none, gave-slice, walkOf, AllGo, goes-none, goes-ref, goes-gave-ref, goes-gave-slice, Walks, ends-at, walked, walk-meets}
 use denote.Exit.{yes}
-use Rattle.rules.specs.Steps.{Step, read, write, frame as frameStep}
+use Rattle.rules.specs.Steps.{Step, reset, read, write, sync, syncDue, slot, frame as frameStep, fault, timeout}
 use Rattle.controller.specs.declared.Done.{Done}
 use Rattle.controller.specs.declared.Call.the-variants.{Reset, Read, Write, Sync, SyncDue, Slot, Frame, Fault, Timeout}
 use Rattle.controller.specs.Session.{stepOf}
 use Rattle.controller.specs.Unchanged.{read-unchanged}
 use Rattle.controller.specs.Code.{doneOf, changed, stepFor, roomFor, bytesIn}
-use Rattle.lent.specs.Kinds.{restFor}
 use Rattle.controller.specs.declared.Controller.{Controller}
 use Rattle.controller.proofs.Controller as T
 use Rattle.controller.proofs.Controller.Laws as T′
@@ -65,10 +64,20 @@ use Rattle.controller.proofs.Call.Laws as Call-row′
 use Rattle.controller.specs.declared.FrameBytes.{FrameBytes}
 use Rattle.controller.proofs.FrameBytes as Frame-row
 use Rattle.controller.proofs.FrameBytes.Laws as Frame-row′
+use Rattle.rules.specs.declared.SyncKind.{SyncKind}
+use Rattle.rules.proofs.SyncKind as Sync-row
+use Rattle.rules.proofs.SyncKind.Laws as Sync-row′
+use Rattle.rules.specs.declared.Fault.{Fault as FaultKind}
+use Rattle.rules.proofs.Fault as Fault-row
+use Rattle.rules.proofs.Fault.Laws as Fault-row′
 use Rattle.rules.specs.declared.Answer.{Answer}
 use Rattle.rules.proofs.Answer as Answer-row
 use Rattle.rules.proofs.Answer.Laws as Answer-row′
 use Rattle.rules.proofs.Control.Laws as Control-row′
+use Rattle.controller.proofs.Controller.plan_reset as resets
+use Rattle.controller.proofs.Controller.plan_reset.Symbol as resets-def
+use Rattle.controller.proofs.Controller.plan_reset.Symbol.{name as #resets}
+use Rattle.controller.proofs.Controller.plan_reset.Met as resets-thm
 use Rattle.lent.proofs.read as reads
 use Rattle.lent.proofs.read.Symbol as reads-def
 use Rattle.lent.proofs.read.Symbol.{name as #reads}
@@ -77,14 +86,30 @@ use Rattle.controller.proofs.Controller.plan_write as writes
 use Rattle.controller.proofs.Controller.plan_write.Symbol as writes-def
 use Rattle.controller.proofs.Controller.plan_write.Symbol.{name as #writes}
 use Rattle.controller.proofs.Controller.plan_write.Met as writes-thm
-use Rattle.lent.proofs.framed as framed
-use Rattle.lent.proofs.framed.Symbol as framed-def
-use Rattle.lent.proofs.framed.Symbol.{name as #framed}
-use Rattle.lent.proofs.framed.Met as framed-thm
-use Rattle.lent.proofs.planned as planned
-use Rattle.lent.proofs.planned.Symbol as planned-def
-use Rattle.lent.proofs.planned.Symbol.{name as #planned}
-use Rattle.lent.proofs.planned.Met as planned-thm
+use Rattle.controller.proofs.Controller.plan_sync as syncs
+use Rattle.controller.proofs.Controller.plan_sync.Symbol as syncs-def
+use Rattle.controller.proofs.Controller.plan_sync.Symbol.{name as #syncs}
+use Rattle.controller.proofs.Controller.plan_sync.Met as syncs-thm
+use Rattle.controller.proofs.Controller.plan_due as dues
+use Rattle.controller.proofs.Controller.plan_due.Symbol as dues-def
+use Rattle.controller.proofs.Controller.plan_due.Symbol.{name as #dues}
+use Rattle.controller.proofs.Controller.plan_due.Met as dues-thm
+use Rattle.controller.proofs.Controller.plan_slot as slots
+use Rattle.controller.proofs.Controller.plan_slot.Symbol as slots-def
+use Rattle.controller.proofs.Controller.plan_slot.Symbol.{name as #slots}
+use Rattle.controller.proofs.Controller.plan_slot.Met as slots-thm
+use Rattle.lent.proofs.framed as frameds
+use Rattle.lent.proofs.framed.Symbol as frameds-def
+use Rattle.lent.proofs.framed.Symbol.{name as #frameds}
+use Rattle.lent.proofs.framed.Met as frameds-thm
+use Rattle.controller.proofs.Controller.plan_fault as faults
+use Rattle.controller.proofs.Controller.plan_fault.Symbol as faults-def
+use Rattle.controller.proofs.Controller.plan_fault.Symbol.{name as #faults}
+use Rattle.controller.proofs.Controller.plan_fault.Met as faults-thm
+use Rattle.controller.proofs.Controller.plan_timeout as timeouts
+use Rattle.controller.proofs.Controller.plan_timeout.Symbol as timeouts-def
+use Rattle.controller.proofs.Controller.plan_timeout.Symbol.{name as #timeouts}
+use Rattle.controller.proofs.Controller.plan_timeout.Met as timeouts-thm
 use Rattle.lent.proofs.carry as carries
 use Rattle.lent.proofs.carry.Symbol as carries-def
 use Rattle.lent.proofs.carry.Symbol.{name as #carries}
@@ -102,17 +127,32 @@ abbrev stayed : Stays (this.ended .signature .params) (this.ended .kept)
 stayed = (gave-ref (0 ∷ []) tt (plain (λ _. T.the-row)), (stay-none (λ _. Call-row.the-row) yes, (stay-none (λ _. Frame-row.the-row) yes, (gave-slice (1 ∷ []) tt (plain (λ _. u8)), tt))))
 
 -- the contracts that the proof cites
+abbrev Resets : {M : Type 1} (𝓤 : URA M) (H : Heap 𝓤) (A : Atoms 𝓤) (mem : Memory → SProp 𝓤) (run : Routine → Fun 𝓤) → Contract 𝓤
+Resets 𝓤 H A mem run = tripleOf 𝓤 H A resets.signature (resets.spec 𝓤 H A mem run)
+
 abbrev Reads : {M : Type 1} (𝓤 : URA M) (H : Heap 𝓤) (A : Atoms 𝓤) (mem : Memory → SProp 𝓤) (run : Routine → Fun 𝓤) → Contract 𝓤
 Reads 𝓤 H A mem run = tripleOf 𝓤 H A reads.signature (reads.spec 𝓤 H A mem run)
 
 abbrev Writes : {M : Type 1} (𝓤 : URA M) (H : Heap 𝓤) (A : Atoms 𝓤) (mem : Memory → SProp 𝓤) (run : Routine → Fun 𝓤) → Contract 𝓤
 Writes 𝓤 H A mem run = tripleOf 𝓤 H A writes.signature (writes.spec 𝓤 H A mem run)
 
-abbrev Framed : {M : Type 1} (𝓤 : URA M) (H : Heap 𝓤) (A : Atoms 𝓤) (mem : Memory → SProp 𝓤) (run : Routine → Fun 𝓤) → Contract 𝓤
-Framed 𝓤 H A mem run = tripleOf 𝓤 H A framed.signature (framed.spec 𝓤 H A mem run)
+abbrev Syncs : {M : Type 1} (𝓤 : URA M) (H : Heap 𝓤) (A : Atoms 𝓤) (mem : Memory → SProp 𝓤) (run : Routine → Fun 𝓤) → Contract 𝓤
+Syncs 𝓤 H A mem run = tripleOf 𝓤 H A syncs.signature (syncs.spec 𝓤 H A mem run)
 
-abbrev Planned : {M : Type 1} (𝓤 : URA M) (H : Heap 𝓤) (A : Atoms 𝓤) (mem : Memory → SProp 𝓤) (run : Routine → Fun 𝓤) → Contract 𝓤
-Planned 𝓤 H A mem run = tripleOf 𝓤 H A planned.signature (planned.spec 𝓤 H A mem run)
+abbrev Dues : {M : Type 1} (𝓤 : URA M) (H : Heap 𝓤) (A : Atoms 𝓤) (mem : Memory → SProp 𝓤) (run : Routine → Fun 𝓤) → Contract 𝓤
+Dues 𝓤 H A mem run = tripleOf 𝓤 H A dues.signature (dues.spec 𝓤 H A mem run)
+
+abbrev Slots : {M : Type 1} (𝓤 : URA M) (H : Heap 𝓤) (A : Atoms 𝓤) (mem : Memory → SProp 𝓤) (run : Routine → Fun 𝓤) → Contract 𝓤
+Slots 𝓤 H A mem run = tripleOf 𝓤 H A slots.signature (slots.spec 𝓤 H A mem run)
+
+abbrev Frameds : {M : Type 1} (𝓤 : URA M) (H : Heap 𝓤) (A : Atoms 𝓤) (mem : Memory → SProp 𝓤) (run : Routine → Fun 𝓤) → Contract 𝓤
+Frameds 𝓤 H A mem run = tripleOf 𝓤 H A frameds.signature (frameds.spec 𝓤 H A mem run)
+
+abbrev Faults : {M : Type 1} (𝓤 : URA M) (H : Heap 𝓤) (A : Atoms 𝓤) (mem : Memory → SProp 𝓤) (run : Routine → Fun 𝓤) → Contract 𝓤
+Faults 𝓤 H A mem run = tripleOf 𝓤 H A faults.signature (faults.spec 𝓤 H A mem run)
+
+abbrev Timeouts : {M : Type 1} (𝓤 : URA M) (H : Heap 𝓤) (A : Atoms 𝓤) (mem : Memory → SProp 𝓤) (run : Routine → Fun 𝓤) → Contract 𝓤
+Timeouts 𝓤 H A mem run = tripleOf 𝓤 H A timeouts.signature (timeouts.spec 𝓤 H A mem run)
 
 abbrev Carries : {M : Type 1} (𝓤 : URA M) (H : Heap 𝓤) (A : Atoms 𝓤) (mem : Memory → SProp 𝓤) (run : Routine → Fun 𝓤) → Contract 𝓤
 Carries 𝓤 H A mem run = tripleOf 𝓤 H A carries.signature (carries.spec 𝓤 H A mem run)
@@ -146,22 +186,64 @@ abbrev copied : ℕ → Bodyᴹ → Bodyᴹ
 copied i rest = seqᴹ (assignᴹ (placeᴹ i []) (rvOpd (copyᴹ (placeᴹ 1 (deref T′.mir ∷ []))))) rest
 
 abbrev carrying : ℕ → ℕ → Bodyᴹ
-carrying r k = seqᴹ (assignᴹ (placeᴹ r []) (addrOf (placeᴹ 1 (deref T′.mir ∷ [])))) (callᴹ #carries (copyᴹ (placeᴹ r []) ∷ copyᴹ (placeᴹ k []) ∷ []) (placeᴹ 12 []))
+carrying r k = seqᴹ (assignᴹ (placeᴹ r []) (addrOf (placeᴹ 1 (deref T′.mir ∷ [])))) (callᴹ #carries (copyᴹ (placeᴹ r []) ∷ copyᴹ (placeᴹ k []) ∷ []) (placeᴹ 20 []))
+
+abbrev code-reset : Bodyᴹ
+code-reset = copied 21 (seqᴹ (callᴹ #resets (copyᴹ (placeᴹ 21 []) ∷ []) (placeᴹ 5 [])) (carrying 22 5))
 
 abbrev code-read : Bodyᴹ
-code-read = copied 13 (callᴹ #reads (copyᴹ (placeᴹ 13 []) ∷ copyᴹ (placeᴹ 5 []) ∷ []) (placeᴹ 12 []))
+code-read = copied 23 (callᴹ #reads (copyᴹ (placeᴹ 23 []) ∷ copyᴹ (placeᴹ 6 []) ∷ []) (placeᴹ 20 []))
 
-abbrev code-writing : Bodyᴹ
-code-writing = copied 14 (seqᴹ (callᴹ #writes (copyᴹ (placeᴹ 14 []) ∷ copyᴹ (placeᴹ 6 []) ∷ copyᴹ (placeᴹ 7 []) ∷ []) (placeᴹ 8 [])) (carrying 15 8))
+abbrev code-write : Bodyᴹ
+code-write = copied 24 (seqᴹ (callᴹ #writes (copyᴹ (placeᴹ 24 []) ∷ copyᴹ (placeᴹ 7 []) ∷ copyᴹ (placeᴹ 8 []) ∷ []) (placeᴹ 9 [])) (carrying 25 9))
 
-abbrev code-framing : Bodyᴹ
-code-framing = copied 16 (seqᴹ (callᴹ #framed (copyᴹ (placeᴹ 16 []) ∷ copyᴹ (placeᴹ 9 []) ∷ copyᴹ (placeᴹ 3 []) ∷ []) (placeᴹ 10 [])) (carrying 17 10))
+abbrev code-sync : Bodyᴹ
+code-sync = copied 26 (seqᴹ (callᴹ #syncs (copyᴹ (placeᴹ 26 []) ∷ copyᴹ (placeᴹ 10 []) ∷ []) (placeᴹ 11 [])) (carrying 27 11))
 
-abbrev code-resting : Bodyᴹ
-code-resting = copied 18 (seqᴹ (assignᴹ (placeᴹ 19 []) (addrOf (placeᴹ 4 (fieldᴹ 0 ∷ deref (tyInt w8) ∷ [])))) (seqᴹ (assignᴹ (placeᴹ 20 []) (aggregate (copyᴹ (placeᴹ 19 []) ∷ copyᴹ (placeᴹ 4 (fieldᴹ 1 ∷ [])) ∷ []))) (seqᴹ (callᴹ #planned (copyᴹ (placeᴹ 18 []) ∷ copyᴹ (placeᴹ 2 []) ∷ copyᴹ (placeᴹ 20 []) ∷ []) (placeᴹ 11 [])) (carrying 21 11))))
+abbrev code-due : Bodyᴹ
+code-due = copied 28 (seqᴹ (callᴹ #dues (copyᴹ (placeᴹ 28 []) ∷ []) (placeᴹ 12 [])) (carrying 29 12))
+
+abbrev code-slot : Bodyᴹ
+code-slot = copied 30 (seqᴹ (assignᴹ (placeᴹ 31 []) (addrOf (placeᴹ 4 (fieldᴹ 0 ∷ deref (tyInt w8) ∷ [])))) (seqᴹ (assignᴹ (placeᴹ 32 []) (aggregate (copyᴹ (placeᴹ 31 []) ∷ copyᴹ (placeᴹ 4 (fieldᴹ 1 ∷ [])) ∷ []))) (seqᴹ (callᴹ #slots (copyᴹ (placeᴹ 30 []) ∷ copyᴹ (placeᴹ 13 []) ∷ copyᴹ (placeᴹ 32 []) ∷ []) (placeᴹ 14 [])) (carrying 33 14))))
+
+abbrev code-framed : Bodyᴹ
+code-framed = copied 34 (seqᴹ (callᴹ #frameds (copyᴹ (placeᴹ 34 []) ∷ copyᴹ (placeᴹ 15 []) ∷ copyᴹ (placeᴹ 3 []) ∷ []) (placeᴹ 16 [])) (carrying 35 16))
+
+abbrev code-fault : Bodyᴹ
+code-fault = copied 36 (seqᴹ (callᴹ #faults (copyᴹ (placeᴹ 36 []) ∷ copyᴹ (placeᴹ 17 []) ∷ []) (placeᴹ 18 [])) (carrying 37 18))
+
+abbrev code-timeout : Bodyᴹ
+code-timeout = copied 38 (seqᴹ (callᴹ #timeouts (copyᴹ (placeᴹ 38 []) ∷ []) (placeᴹ 19 [])) (carrying 39 19))
+
+abbrev arm-reset : Bodyᴹ
+arm-reset = code-reset
+
+abbrev arm-read : Bodyᴹ
+arm-read = taken 6 1 1 code-read
+
+abbrev arm-write : Bodyᴹ
+arm-write = taken 7 2 1 (taken 8 2 2 code-write)
+
+abbrev arm-sync : Bodyᴹ
+arm-sync = taken 10 3 1 code-sync
+
+abbrev arm-due : Bodyᴹ
+arm-due = code-due
+
+abbrev arm-slot : Bodyᴹ
+arm-slot = taken 13 5 1 code-slot
+
+abbrev arm-framed : Bodyᴹ
+arm-framed = taken 15 6 1 code-framed
+
+abbrev arm-fault : Bodyᴹ
+arm-fault = taken 17 7 1 code-fault
+
+abbrev arm-timeout : Bodyᴹ
+arm-timeout = code-timeout
 
 abbrev the-match : Bodyᴹ
-the-match = switchᴹ (copyᴹ (placeᴹ 2 (variantᴹ 0 ∷ fieldᴹ 0 ∷ []))) (armᴹ (1 ∷ []) (taken 5 1 1 code-read) (armᴹ (2 ∷ []) (taken 6 2 1 (taken 7 2 2 code-writing)) (armᴹ (6 ∷ []) (taken 9 6 1 code-framing) (armᴹ (0 ∷ 3 ∷ 4 ∷ 5 ∷ 7 ∷ 8 ∷ []) code-resting noDefault))))
+the-match = switchᴹ (copyᴹ (placeᴹ 2 (variantᴹ 0 ∷ fieldᴹ 0 ∷ []))) (armᴹ (0 ∷ []) arm-reset (armᴹ (1 ∷ []) arm-read (armᴹ (2 ∷ []) arm-write (armᴹ (3 ∷ []) arm-sync (armᴹ (4 ∷ []) arm-due (armᴹ (5 ∷ []) arm-slot (armᴹ (6 ∷ []) arm-framed (armᴹ (7 ∷ []) arm-fault (armᴹ (8 ∷ []) arm-timeout noDefault)))))))))
 
 module _ {M : Type 1} (𝓤 : URA M) (H : Heap 𝓤) (A : Atoms 𝓤) (W : Given 𝓤 H A) (at-mem : Memory → SProp 𝓤) (run : Routine → Fun 𝓤) (κ κ-room : Lft) (q q-room : Share) (b o : ℕ) (γ : GName) (h : Controller) (f : FrameBytes) (b-room o-room : ℕ) (γ-room : GName) (room : List ℕ) (f-is : Is Frame-row.the-row f (LL.val Frame-row.the-type Frame-row′.the-laws f ∷ [])) (room-room : Room u8 (length room)) where
   abbrev rec : RefT Controller
@@ -196,7 +278,7 @@ module _ {M : Type 1} (𝓤 : URA M) (H : Heap 𝓤) (A : Atoms 𝓤) (W : Given
     Post = walkOf 𝓤 H A this.ended stayed (this.clauses 𝓤 H A at-mem run) .post (((κ, (κ-room, tt)), (q, (q-room, tt)), tt, a, at), tt)
 
     abbrev Says : Controller → Answer → List ℕ → Type 0
-    Says c m zs = (c ≡ doneOf (stepOf h (stepFor call (bytesIn f) room)) .next) × (m ≡ doneOf (stepOf h (stepFor call (bytesIn f) room)) .answer) × (zs ≡ roomFor h call room)
+    Says c m zs = (c ≡ next (stepFor call (bytesIn f) room)) × (m ≡ answer (stepFor call (bytesIn f) room)) × (zs ≡ roomFor h call room)
 
     -- what is had at exit
     abbrev Had : Controller → List ℕ → List (Item 𝓤)
@@ -210,56 +292,104 @@ module _ {M : Type 1} (𝓤 : URA M) (H : Heap 𝓤) (A : Atoms 𝓤) (W : Given
         nothing ! $ move ! (2 ∷ 0 ∷ []) $ fjoin ! $ owned ! Frame-row.the-row (Is Frame-row.the-row) (LL.makes Frame-row.the-type Frame-row′.the-plain 𝓤 H A) f _ f-is $ fjoin ! $ owned ! Call-row.the-row (Is Call-row.the-row) (EL.makes Call-row.the-type Call-row′.the-plain 𝓤 H A) call _ call-is $ fjoin ! $ move ! (1 ∷ 0 ∷ []) $ fjoin ! $ frame ! $ owned ! Answer-row.the-row (Is Answer-row.the-row) (EL.makes Answer-row.the-type Answer-row′.the-plain 𝓤 H A) m _ g $ done !
 
   -- what the triples bind outside, and what they ask
-  abbrev to-reads : ℕ → (Reads 𝓤 H A at-mem run) .Ghost
-  to-reads n = ((tt, tt, tt, (h, (n, tt)), (mach h ∷ [], (vint w8 n ∷ [], tt))), tt)
+  abbrev args-reset : Controller × (Unit {0})
+  args-reset = (h, tt)
 
-  asked-reads : (n : ℕ) → n < 2 ^ 8 → Is T.the-row h (LL.val T.the-type T′.the-laws h ∷ []) → ent 𝓤 (emp 𝓤) ((Reads 𝓤 H A at-mem run) .pre (to-reads n))
-  asked-reads n n-fits was = qed W [] ∵ nothing ! $ nothing ! $ owned ! u8 (Is u8) (uint-makes 𝓤 H A W w8) n _ (refl, n-fits) $ fjoin ! $ owned ! T.the-row (Is T.the-row) (LL.makes T.the-type T′.the-plain 𝓤 H A) h _ was $ fjoin ! $ move ! (1 ∷ 0 ∷ []) $ join ! $ nothing ! $ move ! (1 ∷ 0 ∷ []) $ join ! $ done !
+  abbrev to-reset : (Resets 𝓤 H A at-mem run) .Ghost
+  to-reset = ((tt, tt, tt, args-reset, (mach h ∷ [], tt)), tt)
 
-  abbrev args-writes : ℕ → ℕ → Controller × (ℕ × (ℕ × Unit {0}))
-  args-writes n u = (h, (n, (u, tt)))
+  asked-reset : Is T.the-row h (LL.val T.the-type T′.the-laws h ∷ []) → ent 𝓤 (emp 𝓤) ((Resets 𝓤 H A at-mem run) .pre to-reset)
+  asked-reset was = qed W [] ∵ nothing ! $ nothing ! $ owned ! T.the-row (Is T.the-row) (LL.makes T.the-type T′.the-plain 𝓤 H A) h _ was $ fjoin ! $ move ! (1 ∷ 0 ∷ []) $ join ! $ nothing ! $ move ! (1 ∷ 0 ∷ []) $ join ! $ done !
 
-  abbrev to-writes : ℕ → ℕ → (Writes 𝓤 H A at-mem run) .Ghost
-  to-writes n u = ((tt, tt, tt, args-writes n u, (mach h ∷ [], (vint w8 n ∷ [], (vint w8 u ∷ [], tt)))), tt)
+  abbrev args-read : ℕ → Controller × (ℕ × (Unit {0}))
+  args-read n = (h, (n, tt))
 
-  asked-writes : (n u : ℕ) → n < 2 ^ 8 → u < 2 ^ 8 → Is T.the-row h (LL.val T.the-type T′.the-laws h ∷ []) → ent 𝓤 (emp 𝓤) ((Writes 𝓤 H A at-mem run) .pre (to-writes n u))
-  asked-writes n u n-fits u-fits was = qed W [] ∵ nothing ! $ nothing ! $ owned ! u8 (Is u8) (uint-makes 𝓤 H A W w8) u _ (refl, u-fits) $ fjoin ! $ owned ! u8 (Is u8) (uint-makes 𝓤 H A W w8) n _ (refl, n-fits) $ fjoin ! $ owned ! T.the-row (Is T.the-row) (LL.makes T.the-type T′.the-plain 𝓤 H A) h _ was $ fjoin ! $ move ! (1 ∷ 0 ∷ []) $ join ! $ nothing ! $ move ! (1 ∷ 0 ∷ []) $ join ! $ done !
+  abbrev to-read : ℕ → (Reads 𝓤 H A at-mem run) .Ghost
+  to-read n = ((tt, tt, tt, (args-read n), (mach h ∷ [], (vint w8 n ∷ [], tt))), tt)
 
-  abbrev args-framed : Bool → Controller × (Bool × (FrameBytes × Unit {0}))
+  asked-read : (n : ℕ) → n < 2 ^ 8 → Is T.the-row h (LL.val T.the-type T′.the-laws h ∷ []) → ent 𝓤 (emp 𝓤) ((Reads 𝓤 H A at-mem run) .pre (to-read n))
+  asked-read n n-fits was = qed W [] ∵ nothing ! $ nothing ! $ owned ! u8 (Is u8) (uint-makes 𝓤 H A W w8) n _ (refl, n-fits) $ fjoin ! $ owned ! T.the-row (Is T.the-row) (LL.makes T.the-type T′.the-plain 𝓤 H A) h _ was $ fjoin ! $ move ! (1 ∷ 0 ∷ []) $ join ! $ nothing ! $ move ! (1 ∷ 0 ∷ []) $ join ! $ done !
+
+  abbrev args-write : ℕ → ℕ → Controller × (ℕ × (ℕ × (Unit {0})))
+  args-write n u = (h, (n, (u, tt)))
+
+  abbrev to-write : ℕ → ℕ → (Writes 𝓤 H A at-mem run) .Ghost
+  to-write n u = ((tt, tt, tt, (args-write n u), (mach h ∷ [], (vint w8 n ∷ [], (vint w8 u ∷ [], tt)))), tt)
+
+  asked-write : (n : ℕ) (u : ℕ) → n < 2 ^ 8 → u < 2 ^ 8 → Is T.the-row h (LL.val T.the-type T′.the-laws h ∷ []) → ent 𝓤 (emp 𝓤) ((Writes 𝓤 H A at-mem run) .pre (to-write n u))
+  asked-write n u n-fits u-fits was = qed W [] ∵ nothing ! $ nothing ! $ owned ! u8 (Is u8) (uint-makes 𝓤 H A W w8) u _ (refl, u-fits) $ fjoin ! $ owned ! u8 (Is u8) (uint-makes 𝓤 H A W w8) n _ (refl, n-fits) $ fjoin ! $ owned ! T.the-row (Is T.the-row) (LL.makes T.the-type T′.the-plain 𝓤 H A) h _ was $ fjoin ! $ move ! (1 ∷ 0 ∷ []) $ join ! $ nothing ! $ move ! (1 ∷ 0 ∷ []) $ join ! $ done !
+
+  abbrev args-sync : SyncKind → Controller × (SyncKind × (Unit {0}))
+  args-sync k = (h, (k, tt))
+
+  abbrev to-sync : SyncKind → (Syncs 𝓤 H A at-mem run) .Ghost
+  to-sync k = ((tt, tt, tt, (args-sync k), (mach h ∷ [], (EL.val Sync-row.the-type Sync-row′.the-laws k ∷ [], tt))), tt)
+
+  asked-sync : (k : SyncKind) → Is Sync-row.the-row k (EL.val Sync-row.the-type Sync-row′.the-laws k ∷ []) → Is T.the-row h (LL.val T.the-type T′.the-laws h ∷ []) → ent 𝓤 (emp 𝓤) ((Syncs 𝓤 H A at-mem run) .pre (to-sync k))
+  asked-sync k k-is was = qed W [] ∵ nothing ! $ nothing ! $ owned ! Sync-row.the-row (Is Sync-row.the-row) (EL.makes Sync-row.the-type Sync-row′.the-plain 𝓤 H A) k _ k-is $ fjoin ! $ owned ! T.the-row (Is T.the-row) (LL.makes T.the-type T′.the-plain 𝓤 H A) h _ was $ fjoin ! $ move ! (1 ∷ 0 ∷ []) $ join ! $ nothing ! $ move ! (1 ∷ 0 ∷ []) $ join ! $ done !
+
+  abbrev args-due : Controller × (Unit {0})
+  args-due = (h, tt)
+
+  abbrev to-due : (Dues 𝓤 H A at-mem run) .Ghost
+  to-due = ((tt, tt, tt, args-due, (mach h ∷ [], tt)), tt)
+
+  asked-due : Is T.the-row h (LL.val T.the-type T′.the-laws h ∷ []) → ent 𝓤 (emp 𝓤) ((Dues 𝓤 H A at-mem run) .pre to-due)
+  asked-due was = qed W [] ∵ nothing ! $ nothing ! $ owned ! T.the-row (Is T.the-row) (LL.makes T.the-type T′.the-plain 𝓤 H A) h _ was $ fjoin ! $ move ! (1 ∷ 0 ∷ []) $ join ! $ nothing ! $ move ! (1 ∷ 0 ∷ []) $ join ! $ done !
+
+  abbrev args-slot : ℕ → Controller × (ℕ × (RefT (List ℕ) × (Unit {0})))
+  args-slot n = (h, (n, (room-ref, tt)))
+
+  abbrev to-slot : ℕ → (Slots 𝓤 H A at-mem run) .Ghost
+  to-slot n = (((κ-room, tt), (q-room, tt), tt, (args-slot n), (mach h ∷ [], (vint w8 n ∷ [], (s-room ∷ [], tt)))), tt)
+
+  asked-slot : (n : ℕ) → n < 2 ^ 8 → Is T.the-row h (LL.val T.the-type T′.the-laws h ∷ []) → ent 𝓤 (⋆ 𝓤 H A (‵ (flft κ-room q-room) ∷ ‵ Room′ ∷ [])) ((Slots 𝓤 H A at-mem run) .pre (to-slot n))
+  asked-slot n n-fits was = qed W (‵ (flft κ-room q-room) ∷ ‵ Room′ ∷ []) ∵ nothing ! $ move ! (1 ∷ 0 ∷ []) $ join ! $ nothing ! $ move ! (2 ∷ 0 ∷ []) $ fjoin ! $ owned ! u8 (Is u8) (uint-makes 𝓤 H A W w8) n _ (refl, n-fits) $ fjoin ! $ owned ! T.the-row (Is T.the-row) (LL.makes T.the-type T′.the-plain 𝓤 H A) h _ was $ fjoin ! $ move ! (1 ∷ 0 ∷ []) $ join ! $ nothing ! $ move ! (1 ∷ 0 ∷ []) $ join ! $ done !
+
+  abbrev args-framed : Bool → Controller × (Bool × (FrameBytes × (Unit {0})))
   args-framed good = (h, (good, (f, tt)))
 
-  abbrev to-framed : Bool → (Framed 𝓤 H A at-mem run) .Ghost
-  to-framed good = ((tt, tt, tt, args-framed good, (mach h ∷ [], (vbool good ∷ [], (LL.val Frame-row.the-type Frame-row′.the-laws f ∷ [], tt)))), tt)
+  abbrev to-framed : Bool → (Frameds 𝓤 H A at-mem run) .Ghost
+  to-framed good = ((tt, tt, tt, (args-framed good), (mach h ∷ [], (vbool good ∷ [], (LL.val Frame-row.the-type Frame-row′.the-laws f ∷ [], tt)))), tt)
 
-  asked-framed : (good : Bool) → Is T.the-row h (LL.val T.the-type T′.the-laws h ∷ []) → ent 𝓤 (emp 𝓤) ((Framed 𝓤 H A at-mem run) .pre (to-framed good))
+  asked-framed : (good : Bool) → Is T.the-row h (LL.val T.the-type T′.the-laws h ∷ []) → ent 𝓤 (emp 𝓤) ((Frameds 𝓤 H A at-mem run) .pre (to-framed good))
   asked-framed good was = qed W [] ∵ nothing ! $ nothing ! $ owned ! Frame-row.the-row (Is Frame-row.the-row) (LL.makes Frame-row.the-type Frame-row′.the-plain 𝓤 H A) f _ f-is $ fjoin ! $ owned ! boolean (Is boolean) (bool-makes 𝓤 H A W) good _ refl $ fjoin ! $ owned ! T.the-row (Is T.the-row) (LL.makes T.the-type T′.the-plain 𝓤 H A) h _ was $ fjoin ! $ move ! (1 ∷ 0 ∷ []) $ join ! $ nothing ! $ move ! (1 ∷ 0 ∷ []) $ join ! $ done !
 
-  abbrev args-planned : Call → Controller × (Call × (RefT (List ℕ) × Unit {0}))
-  args-planned call = (h, (call, (room-ref, tt)))
+  abbrev args-fault : FaultKind → Controller × (FaultKind × (Unit {0}))
+  args-fault k = (h, (k, tt))
 
-  abbrev to-planned : Call → (Planned 𝓤 H A at-mem run) .Ghost
-  to-planned call = (((κ-room, tt), (q-room, tt), tt, args-planned call, (mach h ∷ [], (EL.val Call-row.the-type Call-row′.the-laws call ∷ [], (s-room ∷ [], tt)))), tt)
+  abbrev to-fault : FaultKind → (Faults 𝓤 H A at-mem run) .Ghost
+  to-fault k = ((tt, tt, tt, (args-fault k), (mach h ∷ [], (EL.val Fault-row.the-type Fault-row′.the-laws k ∷ [], tt))), tt)
 
-  asked-planned : (call : Call) → Is Call-row.the-row call (EL.val Call-row.the-type Call-row′.the-laws call ∷ []) → Is T.the-row h (LL.val T.the-type T′.the-laws h ∷ []) → ent 𝓤 (⋆ 𝓤 H A (‵ (flft κ-room q-room) ∷ ‵ Room′ ∷ [])) ((Planned 𝓤 H A at-mem run) .pre (to-planned call))
-  asked-planned call call-is was = qed W (‵ (flft κ-room q-room) ∷ ‵ Room′ ∷ []) ∵ nothing ! $ move ! (1 ∷ 0 ∷ []) $ join ! $ nothing ! $ move ! (2 ∷ 0 ∷ []) $ fjoin ! $ owned ! Call-row.the-row (Is Call-row.the-row) (EL.makes Call-row.the-type Call-row′.the-plain 𝓤 H A) call _ call-is $ fjoin ! $ owned ! T.the-row (Is T.the-row) (LL.makes T.the-type T′.the-plain 𝓤 H A) h _ was $ fjoin ! $ move ! (1 ∷ 0 ∷ []) $ join ! $ nothing ! $ move ! (1 ∷ 0 ∷ []) $ join ! $ done !
+  asked-fault : (k : FaultKind) → Is Fault-row.the-row k (EL.val Fault-row.the-type Fault-row′.the-laws k ∷ []) → Is T.the-row h (LL.val T.the-type T′.the-laws h ∷ []) → ent 𝓤 (emp 𝓤) ((Faults 𝓤 H A at-mem run) .pre (to-fault k))
+  asked-fault k k-is was = qed W [] ∵ nothing ! $ nothing ! $ owned ! Fault-row.the-row (Is Fault-row.the-row) (EL.makes Fault-row.the-type Fault-row′.the-plain 𝓤 H A) k _ k-is $ fjoin ! $ owned ! T.the-row (Is T.the-row) (LL.makes T.the-type T′.the-plain 𝓤 H A) h _ was $ fjoin ! $ move ! (1 ∷ 0 ∷ []) $ join ! $ nothing ! $ move ! (1 ∷ 0 ∷ []) $ join ! $ done !
 
-  abbrev args-carries : Change → RefT Controller × (Change × Unit {0})
-  args-carries x = (rec, (x, tt))
+  abbrev args-timeout : Controller × (Unit {0})
+  args-timeout = (h, tt)
 
-  abbrev to-carries : Change → (Carries 𝓤 H A at-mem run) .Ghost
-  to-carries x = (((κ, tt), (q, tt), tt, args-carries x, (vptr b o ∷ [], (LL.val S.the-type S′.the-laws x ∷ [], tt))), tt)
+  abbrev to-timeout : (Timeouts 𝓤 H A at-mem run) .Ghost
+  to-timeout = ((tt, tt, tt, args-timeout, (mach h ∷ [], tt)), tt)
 
-  asked-carries : (x : Change) → Is S.the-row x (LL.val S.the-type S′.the-laws x ∷ []) → ent 𝓤 (⋆ 𝓤 H A (‵ (fobs γ (T.the-row .coded .code h)) ∷ ‵ (fbor κ (Body (mem T.the-row) b o γ)) ∷ ‵ (flft κ q) ∷ [])) ((Carries 𝓤 H A at-mem run) .pre (to-carries x))
-  asked-carries x x-is = qed W (‵ (fobs γ (T.the-row .coded .code h)) ∷ ‵ (fbor κ (Body (mem T.the-row) b o γ)) ∷ ‵ (flft κ q) ∷ []) ∵ nothing ! $ move ! (3 ∷ 0 ∷ []) $ join ! $ nothing ! $ owned ! S.the-row (Is S.the-row) (LL.makes S.the-type S′.the-plain 𝓤 H A) x _ x-is $ fjoin ! $ move ! (2 ∷ 3 ∷ 0 ∷ []) $ feqI ! (List Val) (vptr b o ∷ []) (vptr b o ∷ []) refl $ fjoin3 ! $ fjoin ! $ move ! (1 ∷ 0 ∷ []) $ join ! $ nothing ! $ move ! (1 ∷ 0 ∷ []) $ join ! $ done !
+  asked-timeout : Is T.the-row h (LL.val T.the-type T′.the-laws h ∷ []) → ent 𝓤 (emp 𝓤) ((Timeouts 𝓤 H A at-mem run) .pre to-timeout)
+  asked-timeout was = qed W [] ∵ nothing ! $ nothing ! $ owned ! T.the-row (Is T.the-row) (LL.makes T.the-type T′.the-plain 𝓤 H A) h _ was $ fjoin ! $ move ! (1 ∷ 0 ∷ []) $ join ! $ nothing ! $ move ! (1 ∷ 0 ∷ []) $ join ! $ done !
 
-  module _ (C : Calls 𝓤 H) (Λ : Loops 𝓤 H) (fm : FmC 𝓤 H (W .laws) C) (known-reads : Triple 𝓤 (C #reads) (Reads 𝓤 H A at-mem run)) (known-writes : Triple 𝓤 (C #writes) (Writes 𝓤 H A at-mem run)) (known-framed : Triple 𝓤 (C #framed) (Framed 𝓤 H A at-mem run)) (known-planned : Triple 𝓤 (C #planned) (Planned 𝓤 H A at-mem run)) (known-carries : Triple 𝓤 (C #carries) (Carries 𝓤 H A at-mem run)) where
-    module _ (l0 l1 l2 l3 l4 l5 l6 l7 l8 l9 l10 l11 l12 l13 l14 l15 l16 l17 l18 l19 l20 l21 : ℕ) where
+  abbrev args-carry : Change → RefT Controller × (Change × Unit {0})
+  args-carry x = (rec, (x, tt))
+
+  abbrev to-carry : Change → (Carries 𝓤 H A at-mem run) .Ghost
+  to-carry x = (((κ, tt), (q, tt), tt, args-carry x, (vptr b o ∷ [], (LL.val S.the-type S′.the-laws x ∷ [], tt))), tt)
+
+  asked-carry : (x : Change) → Is S.the-row x (LL.val S.the-type S′.the-laws x ∷ []) → ent 𝓤 (⋆ 𝓤 H A (‵ (fobs γ (T.the-row .coded .code h)) ∷ ‵ (fbor κ (Body (mem T.the-row) b o γ)) ∷ ‵ (flft κ q) ∷ [])) ((Carries 𝓤 H A at-mem run) .pre (to-carry x))
+  asked-carry x x-is = qed W (‵ (fobs γ (T.the-row .coded .code h)) ∷ ‵ (fbor κ (Body (mem T.the-row) b o γ)) ∷ ‵ (flft κ q) ∷ []) ∵ nothing ! $ move ! (3 ∷ 0 ∷ []) $ join ! $ nothing ! $ owned ! S.the-row (Is S.the-row) (LL.makes S.the-type S′.the-plain 𝓤 H A) x _ x-is $ fjoin ! $ move ! (2 ∷ 3 ∷ 0 ∷ []) $ feqI ! (List Val) (vptr b o ∷ []) (vptr b o ∷ []) refl $ fjoin3 ! $ fjoin ! $ move ! (1 ∷ 0 ∷ []) $ join ! $ nothing ! $ move ! (1 ∷ 0 ∷ []) $ join ! $ done !
+
+  module _ (C : Calls 𝓤 H) (Λ : Loops 𝓤 H) (fm : FmC 𝓤 H (W .laws) C) (known-resets : Triple 𝓤 (C #resets) (Resets 𝓤 H A at-mem run)) (known-reads : Triple 𝓤 (C #reads) (Reads 𝓤 H A at-mem run)) (known-writes : Triple 𝓤 (C #writes) (Writes 𝓤 H A at-mem run)) (known-syncs : Triple 𝓤 (C #syncs) (Syncs 𝓤 H A at-mem run)) (known-dues : Triple 𝓤 (C #dues) (Dues 𝓤 H A at-mem run)) (known-slots : Triple 𝓤 (C #slots) (Slots 𝓤 H A at-mem run)) (known-frameds : Triple 𝓤 (C #frameds) (Frameds 𝓤 H A at-mem run)) (known-faults : Triple 𝓤 (C #faults) (Faults 𝓤 H A at-mem run)) (known-timeouts : Triple 𝓤 (C #timeouts) (Timeouts 𝓤 H A at-mem run)) (known-carries : Triple 𝓤 (C #carries) (Carries 𝓤 H A at-mem run)) where
+    module _ (l0 l1 l2 l3 l4 l5 l6 l7 l8 l9 l10 l11 l12 l13 l14 l15 l16 l17 l18 l19 l20 l21 l22 l23 l24 l25 l26 l27 l28 l29 l30 l31 l32 l33 l34 l35 l36 l37 l38 l39 : ℕ) where
       -- the locals, and what frees them
       abbrev En : Env 𝓤 H
-      En = (Answer-row′.mir, l0) ∷ (tyRef (named 0) mut rec-ty, l1) ∷ (Call-row′.mir, l2) ∷ (Frame-row′.mir, l3) ∷ (sliceTy (tyRef (named 1) mut (tyInt w8)), l4) ∷ (tyInt w8, l5) ∷ (tyInt w8, l6) ∷ (tyInt w8, l7) ∷ (out-ty, l8) ∷ (tyBool, l9) ∷ (out-ty, l10) ∷ (out-ty, l11) ∷ (Answer-row′.mir, l12) ∷ (T′.mir, l13) ∷ (T′.mir, l14) ∷ (tyRef erased mut rec-ty, l15) ∷ (T′.mir, l16) ∷ (tyRef erased mut rec-ty, l17) ∷ (T′.mir, l18) ∷ (tyRef erased mut (tyInt w8), l19) ∷ (sliceTy (tyRef erased mut (tyInt w8)), l20) ∷ (tyRef erased mut rec-ty, l21) ∷ []
+      En = (Answer-row′.mir, l0) ∷ (tyRef (named 0) mut rec-ty, l1) ∷ (Call-row′.mir, l2) ∷ (Frame-row′.mir, l3) ∷ (sliceTy (tyRef (named 1) mut (tyInt w8)), l4) ∷ (out-ty, l5) ∷ (tyInt w8, l6) ∷ (tyInt w8, l7) ∷ (tyInt w8, l8) ∷ (out-ty, l9) ∷ (Sync-row′.mir, l10) ∷ (out-ty, l11) ∷ (out-ty, l12) ∷ (tyInt w8, l13) ∷ (out-ty, l14) ∷ (tyBool, l15) ∷ (out-ty, l16) ∷ (Fault-row′.mir, l17) ∷ (out-ty, l18) ∷ (out-ty, l19) ∷ (Answer-row′.mir, l20) ∷ (T′.mir, l21) ∷ (tyRef erased mut rec-ty, l22) ∷ (T′.mir, l23) ∷ (T′.mir, l24) ∷ (tyRef erased mut rec-ty, l25) ∷ (T′.mir, l26) ∷ (tyRef erased mut rec-ty, l27) ∷ (T′.mir, l28) ∷ (tyRef erased mut rec-ty, l29) ∷ (T′.mir, l30) ∷ (tyRef erased mut (tyInt w8), l31) ∷ (sliceTy (tyRef erased mut (tyInt w8)), l32) ∷ (tyRef erased mut rec-ty, l33) ∷ (T′.mir, l34) ∷ (tyRef erased mut rec-ty, l35) ∷ (T′.mir, l36) ∷ (tyRef erased mut rec-ty, l37) ∷ (T′.mir, l38) ∷ (tyRef erased mut rec-ty, l39) ∷ []
 
       abbrev Dies : List (Item 𝓤)
-      Dies = ‵ (fdies Answer-row′.mir l0) ∷ ‵ (fdies (tyRef (named 0) mut rec-ty) l1) ∷ ‵ (fdies Call-row′.mir l2) ∷ ‵ (fdies Frame-row′.mir l3) ∷ ‵ (fdies (sliceTy (tyRef (named 1) mut (tyInt w8))) l4) ∷ ‵ (fdies (tyInt w8) l5) ∷ ‵ (fdies (tyInt w8) l6) ∷ ‵ (fdies (tyInt w8) l7) ∷ ‵ (fdies out-ty l8) ∷ ‵ (fdies tyBool l9) ∷ ‵ (fdies out-ty l10) ∷ ‵ (fdies out-ty l11) ∷ ‵ (fdies Answer-row′.mir l12) ∷ ‵ (fdies T′.mir l13) ∷ ‵ (fdies T′.mir l14) ∷ ‵ (fdies (tyRef erased mut rec-ty) l15) ∷ ‵ (fdies T′.mir l16) ∷ ‵ (fdies (tyRef erased mut rec-ty) l17) ∷ ‵ (fdies T′.mir l18) ∷ ‵ (fdies (tyRef erased mut (tyInt w8)) l19) ∷ ‵ (fdies (sliceTy (tyRef erased mut (tyInt w8))) l20) ∷ ‵ (fdies (tyRef erased mut rec-ty) l21) ∷ []
+      Dies = ‵ (fdies Answer-row′.mir l0) ∷ ‵ (fdies (tyRef (named 0) mut rec-ty) l1) ∷ ‵ (fdies Call-row′.mir l2) ∷ ‵ (fdies Frame-row′.mir l3) ∷ ‵ (fdies (sliceTy (tyRef (named 1) mut (tyInt w8))) l4) ∷ ‵ (fdies out-ty l5) ∷ ‵ (fdies (tyInt w8) l6) ∷ ‵ (fdies (tyInt w8) l7) ∷ ‵ (fdies (tyInt w8) l8) ∷ ‵ (fdies out-ty l9) ∷ ‵ (fdies Sync-row′.mir l10) ∷ ‵ (fdies out-ty l11) ∷ ‵ (fdies out-ty l12) ∷ ‵ (fdies (tyInt w8) l13) ∷ ‵ (fdies out-ty l14) ∷ ‵ (fdies tyBool l15) ∷ ‵ (fdies out-ty l16) ∷ ‵ (fdies Fault-row′.mir l17) ∷ ‵ (fdies out-ty l18) ∷ ‵ (fdies out-ty l19) ∷ ‵ (fdies Answer-row′.mir l20) ∷ ‵ (fdies T′.mir l21) ∷ ‵ (fdies (tyRef erased mut rec-ty) l22) ∷ ‵ (fdies T′.mir l23) ∷ ‵ (fdies T′.mir l24) ∷ ‵ (fdies (tyRef erased mut rec-ty) l25) ∷ ‵ (fdies T′.mir l26) ∷ ‵ (fdies (tyRef erased mut rec-ty) l27) ∷ ‵ (fdies T′.mir l28) ∷ ‵ (fdies (tyRef erased mut rec-ty) l29) ∷ ‵ (fdies T′.mir l30) ∷ ‵ (fdies (tyRef erased mut (tyInt w8)) l31) ∷ ‵ (fdies (sliceTy (tyRef erased mut (tyInt w8))) l32) ∷ ‵ (fdies (tyRef erased mut rec-ty) l33) ∷ ‵ (fdies T′.mir l34) ∷ ‵ (fdies (tyRef erased mut rec-ty) l35) ∷ ‵ (fdies T′.mir l36) ∷ ‵ (fdies (tyRef erased mut rec-ty) l37) ∷ ‵ (fdies T′.mir l38) ∷ ‵ (fdies (tyRef erased mut rec-ty) l39) ∷ []
 
       -- what is left once an arm has ended
       abbrev Next : Call → Out → SProp 𝓤
@@ -267,191 +397,359 @@ module _ {M : Type 1} (𝓤 : URA M) (H : Heap 𝓤) (A : Atoms 𝓤) (W : Given
 
       module _ (call : Call) (call-is : Is Call-row.the-row call (EL.val Call-row.the-type Call-row′.the-laws call ∷ [])) where
         -- the `return`
-        answered : {y1 y2 y3 y4 : Val} (c : Controller) (m : Answer) (zs : List ℕ) → Says call c m zs → Is Answer-row.the-row m (EL.val Answer-row.the-type Answer-row′.the-laws m ∷ []) → length zs ≡ length room → Sq W (‵ (fres γ (T.the-row .coded .code c)) ∷ ‵ (flft κ q) ∷ ‵ (flft κ-room q-room) ∷ ‵ (finally u8 γ-room zs) ∷ ‵ (froom Answer-row′.mir l0 0) ∷ ‵ (fat fullShare (tyRef (named 0) mut rec-ty) l1 0 y1) ∷ ‵ (fat fullShare Call-row′.mir l2 0 y2) ∷ ‵ (fat fullShare Frame-row′.mir l3 0 y3) ∷ ‵ (fat fullShare (sliceTy (tyRef (named 1) mut (tyInt w8))) l4 0 y4) ∷ ‵ (froom (tyInt w8) l5 0) ∷ ‵ (froom (tyInt w8) l6 0) ∷ ‵ (froom (tyInt w8) l7 0) ∷ ‵ (froom out-ty l8 0) ∷ ‵ (froom tyBool l9 0) ∷ ‵ (froom out-ty l10 0) ∷ ‵ (froom out-ty l11 0) ∷ ‵ (fat fullShare Answer-row′.mir l12 0 (EL.val Answer-row.the-type Answer-row′.the-laws m)) ∷ ‵ (froom T′.mir l13 0) ∷ ‵ (froom T′.mir l14 0) ∷ ‵ (froom (tyRef erased mut rec-ty) l15 0) ∷ ‵ (froom T′.mir l16 0) ∷ ‵ (froom (tyRef erased mut rec-ty) l17 0) ∷ ‵ (froom T′.mir l18 0) ∷ ‵ (froom (tyRef erased mut (tyInt w8)) l19 0) ∷ ‵ (froom (sliceTy (tyRef erased mut (tyInt w8))) l20 0) ∷ ‵ (froom (tyRef erased mut rec-ty) l21 0) ∷ Dies) (runs C Λ En pieces.t-2 (atRet En (Post call)))
+        answered : {y1 y2 y3 y4 : Val} (c : Controller) (m : Answer) (zs : List ℕ) → Says call c m zs → Is Answer-row.the-row m (EL.val Answer-row.the-type Answer-row′.the-laws m ∷ []) → length zs ≡ length room → Sq W (‵ (fres γ (T.the-row .coded .code c)) ∷ ‵ (flft κ q) ∷ ‵ (flft κ-room q-room) ∷ ‵ (finally u8 γ-room zs) ∷ ‵ (froom Answer-row′.mir l0 0) ∷ ‵ (fat fullShare (tyRef (named 0) mut rec-ty) l1 0 y1) ∷ ‵ (fat fullShare Call-row′.mir l2 0 y2) ∷ ‵ (fat fullShare Frame-row′.mir l3 0 y3) ∷ ‵ (fat fullShare (sliceTy (tyRef (named 1) mut (tyInt w8))) l4 0 y4) ∷ ‵ (froom out-ty l5 0) ∷ ‵ (froom (tyInt w8) l6 0) ∷ ‵ (froom (tyInt w8) l7 0) ∷ ‵ (froom (tyInt w8) l8 0) ∷ ‵ (froom out-ty l9 0) ∷ ‵ (froom Sync-row′.mir l10 0) ∷ ‵ (froom out-ty l11 0) ∷ ‵ (froom out-ty l12 0) ∷ ‵ (froom (tyInt w8) l13 0) ∷ ‵ (froom out-ty l14 0) ∷ ‵ (froom tyBool l15 0) ∷ ‵ (froom out-ty l16 0) ∷ ‵ (froom Fault-row′.mir l17 0) ∷ ‵ (froom out-ty l18 0) ∷ ‵ (froom out-ty l19 0) ∷ ‵ (fat fullShare Answer-row′.mir l20 0 (EL.val Answer-row.the-type Answer-row′.the-laws m)) ∷ ‵ (froom T′.mir l21 0) ∷ ‵ (froom (tyRef erased mut rec-ty) l22 0) ∷ ‵ (froom T′.mir l23 0) ∷ ‵ (froom T′.mir l24 0) ∷ ‵ (froom (tyRef erased mut rec-ty) l25 0) ∷ ‵ (froom T′.mir l26 0) ∷ ‵ (froom (tyRef erased mut rec-ty) l27 0) ∷ ‵ (froom T′.mir l28 0) ∷ ‵ (froom (tyRef erased mut rec-ty) l29 0) ∷ ‵ (froom T′.mir l30 0) ∷ ‵ (froom (tyRef erased mut (tyInt w8)) l31 0) ∷ ‵ (froom (sliceTy (tyRef erased mut (tyInt w8))) l32 0) ∷ ‵ (froom (tyRef erased mut rec-ty) l33 0) ∷ ‵ (froom T′.mir l34 0) ∷ ‵ (froom (tyRef erased mut rec-ty) l35 0) ∷ ‵ (froom T′.mir l36 0) ∷ ‵ (froom (tyRef erased mut rec-ty) l37 0) ∷ ‵ (froom T′.mir l38 0) ∷ ‵ (froom (tyRef erased mut rec-ty) l39 0) ∷ Dies) (runs C Λ En pieces.t-2 (atRet En (Post call)))
         answered c m zs e g l =
-            assigns ! (of-opd ! (load ! (from ! (stop !)) (look ! 16 refl))) (from ! (stop !)) (init ! 4 refl (EL.lawful Answer-row.the-type Answer-row′.the-laws 𝓤 H A W tt .typed m _ g .0)) $
-            returns ! (look ! 4 refl) $ forget ! 4 refl $ forget ! 5 refl $ forget ! 6 refl $ forget ! 7 refl $ forget ! 8 refl $ forget ! 16 refl $
-            move ! (4 ∷ 26 ∷ []) $ free1 ! $ move ! (4 ∷ 25 ∷ []) $ free1 ! $ move ! (4 ∷ 24 ∷ []) $ free1 ! $ move ! (4 ∷ 23 ∷ []) $ free1 ! $ move ! (4 ∷ 22 ∷ []) $ free1 ! $ move ! (4 ∷ 21 ∷ []) $ free1 ! $ move ! (4 ∷ 20 ∷ []) $ free1 ! $ move ! (4 ∷ 19 ∷ []) $ free1 ! $ move ! (4 ∷ 18 ∷ []) $ free1 ! $ move ! (4 ∷ 17 ∷ []) $ free1 ! $ move ! (4 ∷ 16 ∷ []) $ free1 ! $ move ! (4 ∷ 15 ∷ []) $ free1 ! $ move ! (4 ∷ 14 ∷ []) $ free1 ! $ move ! (4 ∷ 13 ∷ []) $ free1 ! $ move ! (4 ∷ 12 ∷ []) $ free1 ! $ move ! (4 ∷ 11 ∷ []) $ free1 ! $ move ! (4 ∷ 10 ∷ []) $ free1 ! $ move ! (4 ∷ 9 ∷ []) $ free1 ! $ move ! (4 ∷ 8 ∷ []) $ free1 ! $ move ! (4 ∷ 7 ∷ []) $ free1 ! $ move ! (4 ∷ 6 ∷ []) $ free1 ! $ move ! (4 ∷ 5 ∷ []) $ free1 ! $ free0 ! $
+            assigns ! (of-opd ! (load ! (from ! (stop !)) (look ! 24 refl))) (from ! (stop !)) (init ! 4 refl (EL.lawful Answer-row.the-type Answer-row′.the-laws 𝓤 H A W tt .typed m _ g .0)) $
+            returns ! (look ! 4 refl) $ forget ! 4 refl $ forget ! 5 refl $ forget ! 6 refl $ forget ! 7 refl $ forget ! 8 refl $ forget ! 24 refl $
+            move ! (4 ∷ 44 ∷ []) $ free1 ! $ move ! (4 ∷ 43 ∷ []) $ free1 ! $ move ! (4 ∷ 42 ∷ []) $ free1 ! $ move ! (4 ∷ 41 ∷ []) $ free1 ! $ move ! (4 ∷ 40 ∷ []) $ free1 ! $ move ! (4 ∷ 39 ∷ []) $ free1 ! $ move ! (4 ∷ 38 ∷ []) $ free1 ! $ move ! (4 ∷ 37 ∷ []) $ free1 ! $ move ! (4 ∷ 36 ∷ []) $ free1 ! $ move ! (4 ∷ 35 ∷ []) $ free1 ! $ move ! (4 ∷ 34 ∷ []) $ free1 ! $ move ! (4 ∷ 33 ∷ []) $ free1 ! $ move ! (4 ∷ 32 ∷ []) $ free1 ! $ move ! (4 ∷ 31 ∷ []) $ free1 ! $ move ! (4 ∷ 30 ∷ []) $ free1 ! $ move ! (4 ∷ 29 ∷ []) $ free1 ! $ move ! (4 ∷ 28 ∷ []) $ free1 ! $ move ! (4 ∷ 27 ∷ []) $ free1 ! $ move ! (4 ∷ 26 ∷ []) $ free1 ! $ move ! (4 ∷ 25 ∷ []) $ free1 ! $ move ! (4 ∷ 24 ∷ []) $ free1 ! $ move ! (4 ∷ 23 ∷ []) $ free1 ! $ move ! (4 ∷ 22 ∷ []) $ free1 ! $ move ! (4 ∷ 21 ∷ []) $ free1 ! $ move ! (4 ∷ 20 ∷ []) $ free1 ! $ move ! (4 ∷ 19 ∷ []) $ free1 ! $ move ! (4 ∷ 18 ∷ []) $ free1 ! $ move ! (4 ∷ 17 ∷ []) $ free1 ! $ move ! (4 ∷ 16 ∷ []) $ free1 ! $ move ! (4 ∷ 15 ∷ []) $ free1 ! $ move ! (4 ∷ 14 ∷ []) $ free1 ! $ move ! (4 ∷ 13 ∷ []) $ free1 ! $ move ! (4 ∷ 12 ∷ []) $ free1 ! $ move ! (4 ∷ 11 ∷ []) $ free1 ! $ move ! (4 ∷ 10 ∷ []) $ free1 ! $ move ! (4 ∷ 9 ∷ []) $ free1 ! $ move ! (4 ∷ 8 ∷ []) $ free1 ! $ move ! (4 ∷ 7 ∷ []) $ free1 ! $ move ! (4 ∷ 6 ∷ []) $ free1 ! $ move ! (4 ∷ 5 ∷ []) $ free1 ! $ free0 ! $
             by ! (exits call call-is c m zs e g l)
 
-        -- the change is carried out
-        carried-8 : {y2 y6 y7 y14 : Val} (x : Change) → Is S.the-row x (LL.val S.the-type S′.the-laws x ∷ []) → changed h x ≡ doneOf (stepOf h (stepFor call (bytesIn f) room)) → (zs : List ℕ) → zs ≡ roomFor h call room → length zs ≡ length room → Sq W (‵ (fobs γ (T.the-row .coded .code h)) ∷ ‵ (fbor κ (Body (mem T.the-row) b o γ)) ∷ ‵ (flft κ q) ∷ ‵ (flft κ-room q-room) ∷ ‵ (finally u8 γ-room zs) ∷ ‵ (froom Answer-row′.mir l0 0) ∷ ‵ (fat fullShare (tyRef (named 0) mut rec-ty) l1 0 (vptr b o)) ∷ ‵ (fat fullShare Call-row′.mir l2 0 y2) ∷ ‵ (fat fullShare Frame-row′.mir l3 0 (LL.val Frame-row.the-type Frame-row′.the-laws f)) ∷ ‵ (fat fullShare (sliceTy (tyRef (named 1) mut (tyInt w8))) l4 0 s-room) ∷ ‵ (froom (tyInt w8) l5 0) ∷ ‵ (fat fullShare (tyInt w8) l6 0 y6) ∷ ‵ (fat fullShare (tyInt w8) l7 0 y7) ∷ ‵ (fat fullShare out-ty l8 0 (LL.val S.the-type S′.the-laws x)) ∷ ‵ (froom tyBool l9 0) ∷ ‵ (froom out-ty l10 0) ∷ ‵ (froom out-ty l11 0) ∷ ‵ (froom Answer-row′.mir l12 0) ∷ ‵ (froom T′.mir l13 0) ∷ ‵ (fat fullShare T′.mir l14 0 y14) ∷ ‵ (froom (tyRef erased mut rec-ty) l15 0) ∷ ‵ (froom T′.mir l16 0) ∷ ‵ (froom (tyRef erased mut rec-ty) l17 0) ∷ ‵ (froom T′.mir l18 0) ∷ ‵ (froom (tyRef erased mut (tyInt w8)) l19 0) ∷ ‵ (froom (sliceTy (tyRef erased mut (tyInt w8))) l20 0) ∷ ‵ (froom (tyRef erased mut rec-ty) l21 0) ∷ Dies) (runs C Λ En (carrying 15 8) (anyQ (Next call)))
-        carried-8 x x-is e zs z l =
-            assigns ! (addr ! (from ! (hop ! (look ! 6 refl) (stop !)))) (from ! (stop !)) (init ! 20 refl (tt, tt)) $
-            group ! 3 $ use1 W (raw ((Carries 𝓤 H A at-mem run) .pre (to-carries x))) (asked-carries x x-is) $
-            calls-at-last ! fm (Carries 𝓤 H A at-mem run) known-carries (to-carries x) (and-then ! (load ! (from ! (stop !)) (look ! 18 refl)) (and-then ! (load ! (from ! (stop !)) (look ! 11 refl)) (no-more !))) (λ v.
-            use1 W (later (some (λ (m : Answer). ((‵ (flft κ q) ⊛ ‵ ftrue) ⊛ ‵ (Answer-row.the-row .own m (v ∷ []))) ⊛ raw (ensured 𝓤 H A carries.ended (carries.clauses 𝓤 H A at-mem run) (κ, tt) (args-carries x) tt m)))) (id⊢ 𝓤 _) $ await ! tt $ pick ! (λ m.
-            split ! $ move ! (1 ∷ []) $ use1 W (some (λ (ws : Lasts carries.ended (κ, tt) (args-carries x)). ‵ (lasts carries.ended (κ, tt) (args-carries x) ws) ⊛ raw (fact 𝓤 ((ws .0 ≡ changed h x .next) × (m ≡ x .answer))))) (id⊢ 𝓤 _) $ pick ! (λ ws.
+        -- what `Reset` changes is carried out
+        carried-reset : {y2 y21 : Val} (x : Change) → Is S.the-row x (LL.val S.the-type S′.the-laws x ∷ []) → changed h x ≡ doneOf (stepOf h (stepFor call (bytesIn f) room)) → (zs : List ℕ) → zs ≡ roomFor h call room → length zs ≡ length room → Sq W (‵ (fobs γ (T.the-row .coded .code h)) ∷ ‵ (fbor κ (Body (mem T.the-row) b o γ)) ∷ ‵ (flft κ q) ∷ ‵ (flft κ-room q-room) ∷ ‵ (finally u8 γ-room zs) ∷ ‵ (froom Answer-row′.mir l0 0) ∷ ‵ (fat fullShare (tyRef (named 0) mut rec-ty) l1 0 (vptr b o)) ∷ ‵ (fat fullShare Call-row′.mir l2 0 y2) ∷ ‵ (fat fullShare Frame-row′.mir l3 0 (LL.val Frame-row.the-type Frame-row′.the-laws f)) ∷ ‵ (fat fullShare (sliceTy (tyRef (named 1) mut (tyInt w8))) l4 0 s-room) ∷ ‵ (fat fullShare out-ty l5 0 (LL.val S.the-type S′.the-laws x)) ∷ ‵ (froom (tyInt w8) l6 0) ∷ ‵ (froom (tyInt w8) l7 0) ∷ ‵ (froom (tyInt w8) l8 0) ∷ ‵ (froom out-ty l9 0) ∷ ‵ (froom Sync-row′.mir l10 0) ∷ ‵ (froom out-ty l11 0) ∷ ‵ (froom out-ty l12 0) ∷ ‵ (froom (tyInt w8) l13 0) ∷ ‵ (froom out-ty l14 0) ∷ ‵ (froom tyBool l15 0) ∷ ‵ (froom out-ty l16 0) ∷ ‵ (froom Fault-row′.mir l17 0) ∷ ‵ (froom out-ty l18 0) ∷ ‵ (froom out-ty l19 0) ∷ ‵ (froom Answer-row′.mir l20 0) ∷ ‵ (fat fullShare T′.mir l21 0 y21) ∷ ‵ (froom (tyRef erased mut rec-ty) l22 0) ∷ ‵ (froom T′.mir l23 0) ∷ ‵ (froom T′.mir l24 0) ∷ ‵ (froom (tyRef erased mut rec-ty) l25 0) ∷ ‵ (froom T′.mir l26 0) ∷ ‵ (froom (tyRef erased mut rec-ty) l27 0) ∷ ‵ (froom T′.mir l28 0) ∷ ‵ (froom (tyRef erased mut rec-ty) l29 0) ∷ ‵ (froom T′.mir l30 0) ∷ ‵ (froom (tyRef erased mut (tyInt w8)) l31 0) ∷ ‵ (froom (sliceTy (tyRef erased mut (tyInt w8))) l32 0) ∷ ‵ (froom (tyRef erased mut rec-ty) l33 0) ∷ ‵ (froom T′.mir l34 0) ∷ ‵ (froom (tyRef erased mut rec-ty) l35 0) ∷ ‵ (froom T′.mir l36 0) ∷ ‵ (froom (tyRef erased mut rec-ty) l37 0) ∷ ‵ (froom T′.mir l38 0) ∷ ‵ (froom (tyRef erased mut rec-ty) l39 0) ∷ Dies) (runs C Λ En (carrying 22 5) (anyQ (Next call)))
+        carried-reset x x-is e zs z l =
+            assigns ! (addr ! (from ! (hop ! (look ! 6 refl) (stop !)))) (from ! (stop !)) (init ! 27 refl (tt, tt)) $
+            group ! 3 $ use1 W (raw ((Carries 𝓤 H A at-mem run) .pre (to-carry x))) (asked-carry x x-is) $
+            calls-at-last ! fm (Carries 𝓤 H A at-mem run) known-carries (to-carry x) (and-then ! (load ! (from ! (stop !)) (look ! 25 refl)) (and-then ! (load ! (from ! (stop !)) (look ! 8 refl)) (no-more !))) (λ v.
+            use1 W (later (some (λ (m : Answer). ((‵ (flft κ q) ⊛ ‵ ftrue) ⊛ ‵ (Answer-row.the-row .own m (v ∷ []))) ⊛ raw (ensured 𝓤 H A carries.ended (carries.clauses 𝓤 H A at-mem run) (κ, tt) (args-carry x) tt m)))) (id⊢ 𝓤 _) $ await ! tt $ pick ! (λ m.
+            split ! $ move ! (1 ∷ []) $ use1 W (some (λ (ws : Lasts carries.ended (κ, tt) (args-carry x)). ‵ (lasts carries.ended (κ, tt) (args-carry x) ws) ⊛ raw (fact 𝓤 ((ws .0 ≡ changed h x .next) × (m ≡ x .answer))))) (id⊢ 𝓤 _) $ pick ! (λ ws.
             split ! $ move ! (1 ∷ []) $ heard ! ((ws .0 ≡ changed h x .next) × (m ≡ x .answer)) (λ d. fsplit ! $
             move ! (2 ∷ []) $ split ! $ move ! (1 ∷ []) $ peeks ! Answer-row.the-row (Is Answer-row.the-row) (shows 𝓤 H A Answer-row.the-row) m (v ∷ []) (λ is. drop ! $ split ! $
-            land-last ! (from ! (stop !)) (init ! 18 refl (EL.lawful Answer-row.the-type Answer-row′.the-laws 𝓤 H A W tt .typed m _ is .0)) $ rewrite ! 18 (λ (u : Val). ‵ (fat fullShare Answer-row′.mir l12 0 u)) (ap only (EL.tells Answer-row.the-type Answer-row′.the-laws m _ is)) refl $
-            exec ! C Λ En pieces.t-2 (atRet En (Post call)) $ forget ! 12 refl $ forget ! 13 refl $ forget ! 14 refl $ forget ! 20 refl $ forget ! 21 refl $
-            keep ! (2 ∷ 0 ∷ 4 ∷ 5 ∷ 6 ∷ 7 ∷ 8 ∷ 9 ∷ 10 ∷ 11 ∷ 12 ∷ 13 ∷ 14 ∷ 15 ∷ 16 ∷ 17 ∷ 18 ∷ 19 ∷ 20 ∷ 21 ∷ 22 ∷ 23 ∷ 24 ∷ 25 ∷ 26 ∷ 27 ∷ 28 ∷ 29 ∷ 30 ∷ 31 ∷ 32 ∷ 33 ∷ 34 ∷ 35 ∷ 36 ∷ 37 ∷ 38 ∷ 39 ∷ 40 ∷ 41 ∷ 42 ∷ 43 ∷ 44 ∷ 45 ∷ 46 ∷ 47 ∷ 48 ∷ 49 ∷ []) $ answered (ws .0) m zs (d .0 ∙ ap (λ (u : Done). u .next) e, d .1 ∙ ap (λ (u : Done). u .answer) e, z) (answer-is m _ is) l)))))
+            land-last ! (from ! (stop !)) (init ! 26 refl (EL.lawful Answer-row.the-type Answer-row′.the-laws 𝓤 H A W tt .typed m _ is .0)) $ rewrite ! 26 (λ (u : Val). ‵ (fat fullShare Answer-row′.mir l20 0 u)) (ap only (EL.tells Answer-row.the-type Answer-row′.the-laws m _ is)) refl $
+            exec ! C Λ En pieces.t-2 (atRet En (Post call)) $ forget ! 11 refl $ forget ! 27 refl $ forget ! 28 refl $
+            keep ! (2 ∷ 0 ∷ 4 ∷ 5 ∷ 6 ∷ 7 ∷ 8 ∷ 9 ∷ 10 ∷ 11 ∷ 12 ∷ 13 ∷ 14 ∷ 15 ∷ 16 ∷ 17 ∷ 18 ∷ 19 ∷ 20 ∷ 21 ∷ 22 ∷ 23 ∷ 24 ∷ 25 ∷ 26 ∷ 27 ∷ 28 ∷ 29 ∷ 30 ∷ 31 ∷ 32 ∷ 33 ∷ 34 ∷ 35 ∷ 36 ∷ 37 ∷ 38 ∷ 39 ∷ 40 ∷ 41 ∷ 42 ∷ 43 ∷ 44 ∷ 45 ∷ 46 ∷ 47 ∷ 48 ∷ 49 ∷ 50 ∷ 51 ∷ 52 ∷ 53 ∷ 54 ∷ 55 ∷ 56 ∷ 57 ∷ 58 ∷ 59 ∷ 60 ∷ 61 ∷ 62 ∷ 63 ∷ 64 ∷ 65 ∷ 66 ∷ 67 ∷ 68 ∷ 69 ∷ 70 ∷ 71 ∷ 72 ∷ 73 ∷ 74 ∷ 75 ∷ 76 ∷ 77 ∷ 78 ∷ 79 ∷ 80 ∷ 81 ∷ 82 ∷ 83 ∷ 84 ∷ 85 ∷ []) $ answered (ws .0) m zs (d .0 ∙ ap (λ (u : Done). u .next) e, d .1 ∙ ap (λ (u : Done). u .answer) e, z) (answer-is m _ is) l)))))
 
-        -- the change is carried out
-        carried-10 : {y2 y9 y16 : Val} (x : Change) → Is S.the-row x (LL.val S.the-type S′.the-laws x ∷ []) → changed h x ≡ doneOf (stepOf h (stepFor call (bytesIn f) room)) → (zs : List ℕ) → zs ≡ roomFor h call room → length zs ≡ length room → Sq W (‵ (fobs γ (T.the-row .coded .code h)) ∷ ‵ (fbor κ (Body (mem T.the-row) b o γ)) ∷ ‵ (flft κ q) ∷ ‵ (flft κ-room q-room) ∷ ‵ (finally u8 γ-room zs) ∷ ‵ (froom Answer-row′.mir l0 0) ∷ ‵ (fat fullShare (tyRef (named 0) mut rec-ty) l1 0 (vptr b o)) ∷ ‵ (fat fullShare Call-row′.mir l2 0 y2) ∷ ‵ (fat fullShare Frame-row′.mir l3 0 (LL.val Frame-row.the-type Frame-row′.the-laws f)) ∷ ‵ (fat fullShare (sliceTy (tyRef (named 1) mut (tyInt w8))) l4 0 s-room) ∷ ‵ (froom (tyInt w8) l5 0) ∷ ‵ (froom (tyInt w8) l6 0) ∷ ‵ (froom (tyInt w8) l7 0) ∷ ‵ (froom out-ty l8 0) ∷ ‵ (fat fullShare tyBool l9 0 y9) ∷ ‵ (fat fullShare out-ty l10 0 (LL.val S.the-type S′.the-laws x)) ∷ ‵ (froom out-ty l11 0) ∷ ‵ (froom Answer-row′.mir l12 0) ∷ ‵ (froom T′.mir l13 0) ∷ ‵ (froom T′.mir l14 0) ∷ ‵ (froom (tyRef erased mut rec-ty) l15 0) ∷ ‵ (fat fullShare T′.mir l16 0 y16) ∷ ‵ (froom (tyRef erased mut rec-ty) l17 0) ∷ ‵ (froom T′.mir l18 0) ∷ ‵ (froom (tyRef erased mut (tyInt w8)) l19 0) ∷ ‵ (froom (sliceTy (tyRef erased mut (tyInt w8))) l20 0) ∷ ‵ (froom (tyRef erased mut rec-ty) l21 0) ∷ Dies) (runs C Λ En (carrying 17 10) (anyQ (Next call)))
-        carried-10 x x-is e zs z l =
-            assigns ! (addr ! (from ! (hop ! (look ! 6 refl) (stop !)))) (from ! (stop !)) (init ! 22 refl (tt, tt)) $
-            group ! 3 $ use1 W (raw ((Carries 𝓤 H A at-mem run) .pre (to-carries x))) (asked-carries x x-is) $
-            calls-at-last ! fm (Carries 𝓤 H A at-mem run) known-carries (to-carries x) (and-then ! (load ! (from ! (stop !)) (look ! 20 refl)) (and-then ! (load ! (from ! (stop !)) (look ! 13 refl)) (no-more !))) (λ v.
-            use1 W (later (some (λ (m : Answer). ((‵ (flft κ q) ⊛ ‵ ftrue) ⊛ ‵ (Answer-row.the-row .own m (v ∷ []))) ⊛ raw (ensured 𝓤 H A carries.ended (carries.clauses 𝓤 H A at-mem run) (κ, tt) (args-carries x) tt m)))) (id⊢ 𝓤 _) $ await ! tt $ pick ! (λ m.
-            split ! $ move ! (1 ∷ []) $ use1 W (some (λ (ws : Lasts carries.ended (κ, tt) (args-carries x)). ‵ (lasts carries.ended (κ, tt) (args-carries x) ws) ⊛ raw (fact 𝓤 ((ws .0 ≡ changed h x .next) × (m ≡ x .answer))))) (id⊢ 𝓤 _) $ pick ! (λ ws.
-            split ! $ move ! (1 ∷ []) $ heard ! ((ws .0 ≡ changed h x .next) × (m ≡ x .answer)) (λ d. fsplit ! $
-            move ! (2 ∷ []) $ split ! $ move ! (1 ∷ []) $ peeks ! Answer-row.the-row (Is Answer-row.the-row) (shows 𝓤 H A Answer-row.the-row) m (v ∷ []) (λ is. drop ! $ split ! $
-            land-last ! (from ! (stop !)) (init ! 18 refl (EL.lawful Answer-row.the-type Answer-row′.the-laws 𝓤 H A W tt .typed m _ is .0)) $ rewrite ! 18 (λ (u : Val). ‵ (fat fullShare Answer-row′.mir l12 0 u)) (ap only (EL.tells Answer-row.the-type Answer-row′.the-laws m _ is)) refl $
-            exec ! C Λ En pieces.t-2 (atRet En (Post call)) $ forget ! 15 refl $ forget ! 16 refl $ forget ! 22 refl $ forget ! 23 refl $
-            keep ! (2 ∷ 0 ∷ 4 ∷ 5 ∷ 6 ∷ 7 ∷ 8 ∷ 9 ∷ 10 ∷ 11 ∷ 12 ∷ 13 ∷ 14 ∷ 15 ∷ 16 ∷ 17 ∷ 18 ∷ 19 ∷ 20 ∷ 21 ∷ 22 ∷ 23 ∷ 24 ∷ 25 ∷ 26 ∷ 27 ∷ 28 ∷ 29 ∷ 30 ∷ 31 ∷ 32 ∷ 33 ∷ 34 ∷ 35 ∷ 36 ∷ 37 ∷ 38 ∷ 39 ∷ 40 ∷ 41 ∷ 42 ∷ 43 ∷ 44 ∷ 45 ∷ 46 ∷ 47 ∷ 48 ∷ 49 ∷ []) $ answered (ws .0) m zs (d .0 ∙ ap (λ (u : Done). u .next) e, d .1 ∙ ap (λ (u : Done). u .answer) e, z) (answer-is m _ is) l)))))
-
-        -- the change is carried out
-        carried-11 : {y2 y18 y19 y20 : Val} (x : Change) → Is S.the-row x (LL.val S.the-type S′.the-laws x ∷ []) → changed h x ≡ doneOf (stepOf h (stepFor call (bytesIn f) room)) → (zs : List ℕ) → zs ≡ roomFor h call room → length zs ≡ length room → Sq W (‵ (fobs γ (T.the-row .coded .code h)) ∷ ‵ (fbor κ (Body (mem T.the-row) b o γ)) ∷ ‵ (flft κ q) ∷ ‵ (flft κ-room q-room) ∷ ‵ (finally u8 γ-room zs) ∷ ‵ (froom Answer-row′.mir l0 0) ∷ ‵ (fat fullShare (tyRef (named 0) mut rec-ty) l1 0 (vptr b o)) ∷ ‵ (fat fullShare Call-row′.mir l2 0 y2) ∷ ‵ (fat fullShare Frame-row′.mir l3 0 (LL.val Frame-row.the-type Frame-row′.the-laws f)) ∷ ‵ (fat fullShare (sliceTy (tyRef (named 1) mut (tyInt w8))) l4 0 s-room) ∷ ‵ (froom (tyInt w8) l5 0) ∷ ‵ (froom (tyInt w8) l6 0) ∷ ‵ (froom (tyInt w8) l7 0) ∷ ‵ (froom out-ty l8 0) ∷ ‵ (froom tyBool l9 0) ∷ ‵ (froom out-ty l10 0) ∷ ‵ (fat fullShare out-ty l11 0 (LL.val S.the-type S′.the-laws x)) ∷ ‵ (froom Answer-row′.mir l12 0) ∷ ‵ (froom T′.mir l13 0) ∷ ‵ (froom T′.mir l14 0) ∷ ‵ (froom (tyRef erased mut rec-ty) l15 0) ∷ ‵ (froom T′.mir l16 0) ∷ ‵ (froom (tyRef erased mut rec-ty) l17 0) ∷ ‵ (fat fullShare T′.mir l18 0 y18) ∷ ‵ (fat fullShare (tyRef erased mut (tyInt w8)) l19 0 y19) ∷ ‵ (fat fullShare (sliceTy (tyRef erased mut (tyInt w8))) l20 0 y20) ∷ ‵ (froom (tyRef erased mut rec-ty) l21 0) ∷ Dies) (runs C Λ En (carrying 21 11) (anyQ (Next call)))
-        carried-11 x x-is e zs z l =
-            assigns ! (addr ! (from ! (hop ! (look ! 6 refl) (stop !)))) (from ! (stop !)) (init ! 26 refl (tt, tt)) $
-            group ! 3 $ use1 W (raw ((Carries 𝓤 H A at-mem run) .pre (to-carries x))) (asked-carries x x-is) $
-            calls-at-last ! fm (Carries 𝓤 H A at-mem run) known-carries (to-carries x) (and-then ! (load ! (from ! (stop !)) (look ! 24 refl)) (and-then ! (load ! (from ! (stop !)) (look ! 14 refl)) (no-more !))) (λ v.
-            use1 W (later (some (λ (m : Answer). ((‵ (flft κ q) ⊛ ‵ ftrue) ⊛ ‵ (Answer-row.the-row .own m (v ∷ []))) ⊛ raw (ensured 𝓤 H A carries.ended (carries.clauses 𝓤 H A at-mem run) (κ, tt) (args-carries x) tt m)))) (id⊢ 𝓤 _) $ await ! tt $ pick ! (λ m.
-            split ! $ move ! (1 ∷ []) $ use1 W (some (λ (ws : Lasts carries.ended (κ, tt) (args-carries x)). ‵ (lasts carries.ended (κ, tt) (args-carries x) ws) ⊛ raw (fact 𝓤 ((ws .0 ≡ changed h x .next) × (m ≡ x .answer))))) (id⊢ 𝓤 _) $ pick ! (λ ws.
-            split ! $ move ! (1 ∷ []) $ heard ! ((ws .0 ≡ changed h x .next) × (m ≡ x .answer)) (λ d. fsplit ! $
-            move ! (2 ∷ []) $ split ! $ move ! (1 ∷ []) $ peeks ! Answer-row.the-row (Is Answer-row.the-row) (shows 𝓤 H A Answer-row.the-row) m (v ∷ []) (λ is. drop ! $ split ! $
-            land-last ! (from ! (stop !)) (init ! 18 refl (EL.lawful Answer-row.the-type Answer-row′.the-laws 𝓤 H A W tt .typed m _ is .0)) $ rewrite ! 18 (λ (u : Val). ‵ (fat fullShare Answer-row′.mir l12 0 u)) (ap only (EL.tells Answer-row.the-type Answer-row′.the-laws m _ is)) refl $
-            exec ! C Λ En pieces.t-2 (atRet En (Post call)) $ forget ! 17 refl $ forget ! 24 refl $ forget ! 25 refl $ forget ! 26 refl $ forget ! 27 refl $
-            keep ! (2 ∷ 0 ∷ 4 ∷ 5 ∷ 6 ∷ 7 ∷ 8 ∷ 9 ∷ 10 ∷ 11 ∷ 12 ∷ 13 ∷ 14 ∷ 15 ∷ 16 ∷ 17 ∷ 18 ∷ 19 ∷ 20 ∷ 21 ∷ 22 ∷ 23 ∷ 24 ∷ 25 ∷ 26 ∷ 27 ∷ 28 ∷ 29 ∷ 30 ∷ 31 ∷ 32 ∷ 33 ∷ 34 ∷ 35 ∷ 36 ∷ 37 ∷ 38 ∷ 39 ∷ 40 ∷ 41 ∷ 42 ∷ 43 ∷ 44 ∷ 45 ∷ 46 ∷ 47 ∷ 48 ∷ 49 ∷ []) $ answered (ws .0) m zs (d .0 ∙ ap (λ (u : Done). u .next) e, d .1 ∙ ap (λ (u : Done). u .answer) e, z) (answer-is m _ is) l)))))
-
-        -- a read, which changes nothing
-        reading : {y2 : Val} (n : ℕ) → n < 2 ^ 8 → read n ≡ stepFor call (bytesIn f) room → room ≡ roomFor h call room → Sq W (‵ Rec ∷ ‵ (flft κ q) ∷ ‵ Room′ ∷ ‵ (flft κ-room q-room) ∷ ‵ (froom Answer-row′.mir l0 0) ∷ ‵ (fat fullShare (tyRef (named 0) mut rec-ty) l1 0 (vptr b o)) ∷ ‵ (fat fullShare Call-row′.mir l2 0 y2) ∷ ‵ (fat fullShare Frame-row′.mir l3 0 (LL.val Frame-row.the-type Frame-row′.the-laws f)) ∷ ‵ (fat fullShare (sliceTy (tyRef (named 1) mut (tyInt w8))) l4 0 s-room) ∷ ‵ (fat fullShare (tyInt w8) l5 0 (vint w8 n)) ∷ ‵ (froom (tyInt w8) l6 0) ∷ ‵ (froom (tyInt w8) l7 0) ∷ ‵ (froom out-ty l8 0) ∷ ‵ (froom tyBool l9 0) ∷ ‵ (froom out-ty l10 0) ∷ ‵ (froom out-ty l11 0) ∷ ‵ (froom Answer-row′.mir l12 0) ∷ ‵ (froom T′.mir l13 0) ∷ ‵ (froom T′.mir l14 0) ∷ ‵ (froom (tyRef erased mut rec-ty) l15 0) ∷ ‵ (froom T′.mir l16 0) ∷ ‵ (froom (tyRef erased mut rec-ty) l17 0) ∷ ‵ (froom T′.mir l18 0) ∷ ‵ (froom (tyRef erased mut (tyInt w8)) l19 0) ∷ ‵ (froom (sliceTy (tyRef erased mut (tyInt w8))) l20 0) ∷ ‵ (froom (tyRef erased mut rec-ty) l21 0) ∷ Dies) (runs C Λ En code-read (anyQ (Next call)))
-        reading n n-fits s z =
+        -- Reset
+        on-reset : {y2 : Val} → reset ≡ stepFor call (bytesIn f) room → room ≡ roomFor h call room → Sq W (‵ Rec ∷ ‵ (flft κ q) ∷ ‵ Room′ ∷ ‵ (flft κ-room q-room) ∷ ‵ (froom Answer-row′.mir l0 0) ∷ ‵ (fat fullShare (tyRef (named 0) mut rec-ty) l1 0 (vptr b o)) ∷ ‵ (fat fullShare Call-row′.mir l2 0 y2) ∷ ‵ (fat fullShare Frame-row′.mir l3 0 (LL.val Frame-row.the-type Frame-row′.the-laws f)) ∷ ‵ (fat fullShare (sliceTy (tyRef (named 1) mut (tyInt w8))) l4 0 s-room) ∷ ‵ (froom out-ty l5 0) ∷ ‵ (froom (tyInt w8) l6 0) ∷ ‵ (froom (tyInt w8) l7 0) ∷ ‵ (froom (tyInt w8) l8 0) ∷ ‵ (froom out-ty l9 0) ∷ ‵ (froom Sync-row′.mir l10 0) ∷ ‵ (froom out-ty l11 0) ∷ ‵ (froom out-ty l12 0) ∷ ‵ (froom (tyInt w8) l13 0) ∷ ‵ (froom out-ty l14 0) ∷ ‵ (froom tyBool l15 0) ∷ ‵ (froom out-ty l16 0) ∷ ‵ (froom Fault-row′.mir l17 0) ∷ ‵ (froom out-ty l18 0) ∷ ‵ (froom out-ty l19 0) ∷ ‵ (froom Answer-row′.mir l20 0) ∷ ‵ (froom T′.mir l21 0) ∷ ‵ (froom (tyRef erased mut rec-ty) l22 0) ∷ ‵ (froom T′.mir l23 0) ∷ ‵ (froom T′.mir l24 0) ∷ ‵ (froom (tyRef erased mut rec-ty) l25 0) ∷ ‵ (froom T′.mir l26 0) ∷ ‵ (froom (tyRef erased mut rec-ty) l27 0) ∷ ‵ (froom T′.mir l28 0) ∷ ‵ (froom (tyRef erased mut rec-ty) l29 0) ∷ ‵ (froom T′.mir l30 0) ∷ ‵ (froom (tyRef erased mut (tyInt w8)) l31 0) ∷ ‵ (froom (sliceTy (tyRef erased mut (tyInt w8))) l32 0) ∷ ‵ (froom (tyRef erased mut rec-ty) l33 0) ∷ ‵ (froom T′.mir l34 0) ∷ ‵ (froom (tyRef erased mut rec-ty) l35 0) ∷ ‵ (froom T′.mir l36 0) ∷ ‵ (froom (tyRef erased mut rec-ty) l37 0) ∷ ‵ (froom T′.mir l38 0) ∷ ‵ (froom (tyRef erased mut rec-ty) l39 0) ∷ Dies) (runs C Λ En code-reset (anyQ (Next call)))
+        on-reset s z =
             fsplit3 ! $ drop ! $
             opens ! tt T.the-row {h = h} b o (λ vs. spelt ! T.the-row (Is T.the-row) (shows 𝓤 H A T.the-row) (LL.vals T.the-type T′.the-laws) (LL.tells T.the-type T′.the-laws) fullShare h vs b o $
             move ! (1 ∷ []) $ peeks ! T.the-row (Is T.the-row) (shows 𝓤 H A T.the-row) h (mach h ∷ []) (λ was.
-            assigns ! (of-opd ! (load ! (from ! (hop ! (look ! 8 refl) (stop !))) (look-raw ! 1 refl))) (from ! (stop !)) (init ! 20 refl (LL.lawful T.the-type T′.the-laws 𝓤 H A W .typed h _ was .0)) $
+            assigns ! (of-opd ! (load ! (from ! (hop ! (look ! 8 refl) (stop !))) (look-raw ! 1 refl))) (from ! (stop !)) (init ! 28 refl (LL.lawful T.the-type T′.the-laws 𝓤 H A W .typed h _ was .0)) $
+            move ! (1 ∷ 0 ∷ 2 ∷ 3 ∷ 4 ∷ []) $ closes ! tt T.the-row h (mach h ∷ []) b o $
+            move ! (3 ∷ []) $ fsplit ! $ move ! (1 ∷ []) $ fsplit ! $
+            use1 W (‵ (fres γ-room (codedHoleys u8 .code (heres u8 room)))) (W .names .obs-res γ-room (codedHoleys u8 .code (heres u8 room))) $ use1 W (‵ (finally u8 γ-room room)) (res-finally 𝓤 H A W (named 1) κ-room u8 γ-room room) $
+            use0 W (raw ((Resets 𝓤 H A at-mem run) .pre to-reset)) (asked-reset was) $
+            calls-at ! fm (Resets 𝓤 H A at-mem run) known-resets to-reset (and-then ! (load ! (from ! (stop !)) (look ! 29 refl)) (no-more !)) (λ v.
+            use1 W (later (some (λ (x : Change). (‵ ftrue ⊛ ‵ (S.the-row .own x (v ∷ []))) ⊛ raw (ensured 𝓤 H A resets.ended (resets.clauses 𝓤 H A at-mem run) tt args-reset tt x)))) (id⊢ 𝓤 _) $ await ! tt $ pick ! (λ x.
+            split ! $ move ! (1 ∷ []) $ use1 W (some (λ (ws : Lasts resets.ended tt args-reset). ‵ (lasts resets.ended tt args-reset ws) ⊛ raw (fact 𝓤 (changed h x ≡ doneOf (stepOf h (reset)))))) (id⊢ 𝓤 _) $ pick ! (λ ws.
+            split ! $ move ! (1 ∷ []) $ heard ! (changed h x ≡ doneOf (stepOf h (reset))) (λ e. drop ! $ split ! $ drop ! $
+            peeks ! S.the-row (Is S.the-row) (shows 𝓤 H A S.the-row) x (v ∷ []) (λ is. drop ! $
+            land ! (from ! (stop !)) (init ! 12 refl (LL.lawful S.the-type S′.the-laws 𝓤 H A W .typed x _ is .0)) $ rewrite ! 12 (λ (u : Val). ‵ (fat fullShare out-ty l5 0 u)) (ap only (LL.tells S.the-type S′.the-laws x _ is)) refl $
+            keep ! (3 ∷ 4 ∷ 5 ∷ 6 ∷ 0 ∷ 7 ∷ 8 ∷ 9 ∷ 10 ∷ 11 ∷ 12 ∷ 13 ∷ 14 ∷ 15 ∷ 16 ∷ 17 ∷ 18 ∷ 19 ∷ 20 ∷ 21 ∷ 22 ∷ 23 ∷ 24 ∷ 25 ∷ 26 ∷ 27 ∷ 28 ∷ 29 ∷ 30 ∷ 31 ∷ 32 ∷ 33 ∷ 34 ∷ 35 ∷ 36 ∷ 37 ∷ 38 ∷ 39 ∷ 40 ∷ 41 ∷ 42 ∷ 43 ∷ 44 ∷ 45 ∷ 46 ∷ 47 ∷ 48 ∷ 49 ∷ 50 ∷ 51 ∷ 52 ∷ 53 ∷ 54 ∷ 55 ∷ 56 ∷ 57 ∷ 58 ∷ 59 ∷ 60 ∷ 61 ∷ 62 ∷ 63 ∷ 64 ∷ 65 ∷ 66 ∷ 67 ∷ 68 ∷ 69 ∷ 70 ∷ 71 ∷ 72 ∷ 73 ∷ 74 ∷ 75 ∷ 76 ∷ 77 ∷ 78 ∷ 79 ∷ 80 ∷ 81 ∷ 82 ∷ 83 ∷ 84 ∷ 85 ∷ 86 ∷ []) $ carried-reset x (change-is x _ is) (e ∙ ap (λ (s : Step). doneOf (stepOf h s)) s) room z refl)))))))
+
+        -- Read
+        on-read : {y2 : Val} (n : ℕ) → n < 2 ^ 8 → read n ≡ stepFor call (bytesIn f) room → room ≡ roomFor h call room → Sq W (‵ Rec ∷ ‵ (flft κ q) ∷ ‵ Room′ ∷ ‵ (flft κ-room q-room) ∷ ‵ (froom Answer-row′.mir l0 0) ∷ ‵ (fat fullShare (tyRef (named 0) mut rec-ty) l1 0 (vptr b o)) ∷ ‵ (fat fullShare Call-row′.mir l2 0 y2) ∷ ‵ (fat fullShare Frame-row′.mir l3 0 (LL.val Frame-row.the-type Frame-row′.the-laws f)) ∷ ‵ (fat fullShare (sliceTy (tyRef (named 1) mut (tyInt w8))) l4 0 s-room) ∷ ‵ (froom out-ty l5 0) ∷ ‵ (fat fullShare (tyInt w8) l6 0 (vint w8 n)) ∷ ‵ (froom (tyInt w8) l7 0) ∷ ‵ (froom (tyInt w8) l8 0) ∷ ‵ (froom out-ty l9 0) ∷ ‵ (froom Sync-row′.mir l10 0) ∷ ‵ (froom out-ty l11 0) ∷ ‵ (froom out-ty l12 0) ∷ ‵ (froom (tyInt w8) l13 0) ∷ ‵ (froom out-ty l14 0) ∷ ‵ (froom tyBool l15 0) ∷ ‵ (froom out-ty l16 0) ∷ ‵ (froom Fault-row′.mir l17 0) ∷ ‵ (froom out-ty l18 0) ∷ ‵ (froom out-ty l19 0) ∷ ‵ (froom Answer-row′.mir l20 0) ∷ ‵ (froom T′.mir l21 0) ∷ ‵ (froom (tyRef erased mut rec-ty) l22 0) ∷ ‵ (froom T′.mir l23 0) ∷ ‵ (froom T′.mir l24 0) ∷ ‵ (froom (tyRef erased mut rec-ty) l25 0) ∷ ‵ (froom T′.mir l26 0) ∷ ‵ (froom (tyRef erased mut rec-ty) l27 0) ∷ ‵ (froom T′.mir l28 0) ∷ ‵ (froom (tyRef erased mut rec-ty) l29 0) ∷ ‵ (froom T′.mir l30 0) ∷ ‵ (froom (tyRef erased mut (tyInt w8)) l31 0) ∷ ‵ (froom (sliceTy (tyRef erased mut (tyInt w8))) l32 0) ∷ ‵ (froom (tyRef erased mut rec-ty) l33 0) ∷ ‵ (froom T′.mir l34 0) ∷ ‵ (froom (tyRef erased mut rec-ty) l35 0) ∷ ‵ (froom T′.mir l36 0) ∷ ‵ (froom (tyRef erased mut rec-ty) l37 0) ∷ ‵ (froom T′.mir l38 0) ∷ ‵ (froom (tyRef erased mut rec-ty) l39 0) ∷ Dies) (runs C Λ En code-read (anyQ (Next call)))
+        on-read n n-fits s z =
+            fsplit3 ! $ drop ! $
+            opens ! tt T.the-row {h = h} b o (λ vs. spelt ! T.the-row (Is T.the-row) (shows 𝓤 H A T.the-row) (LL.vals T.the-type T′.the-laws) (LL.tells T.the-type T′.the-laws) fullShare h vs b o $
+            move ! (1 ∷ []) $ peeks ! T.the-row (Is T.the-row) (shows 𝓤 H A T.the-row) h (mach h ∷ []) (λ was.
+            assigns ! (of-opd ! (load ! (from ! (hop ! (look ! 8 refl) (stop !))) (look-raw ! 1 refl))) (from ! (stop !)) (init ! 30 refl (LL.lawful T.the-type T′.the-laws 𝓤 H A W .typed h _ was .0)) $
             move ! (1 ∷ 0 ∷ 2 ∷ 3 ∷ 4 ∷ []) $ closes ! tt T.the-row h (mach h ∷ []) b o $
             move ! (3 ∷ []) $ fsplit ! $ move ! (1 ∷ []) $ fsplit ! $
             use1 W (‵ (fres γ-room (codedHoleys u8 .code (heres u8 room)))) (W .names .obs-res γ-room (codedHoleys u8 .code (heres u8 room))) $ use1 W (‵ (finally u8 γ-room room)) (res-finally 𝓤 H A W (named 1) κ-room u8 γ-room room) $
             move ! (3 ∷ []) $ use1 W (‵ (fres γ (T.the-row .coded .code h))) (W .names .obs-res γ (T.the-row .coded .code h)) $
-            use0 W (raw ((Reads 𝓤 H A at-mem run) .pre (to-reads n))) (asked-reads n n-fits was) $
-            calls-at-last ! fm (Reads 𝓤 H A at-mem run) known-reads (to-reads n) (and-then ! (load ! (from ! (stop !)) (look ! 21 refl)) (and-then ! (load ! (from ! (stop !)) (look ! 13 refl)) (no-more !))) (λ v.
-            use1 W (later (some (λ (m : Answer). (‵ ftrue ⊛ ‵ (Answer-row.the-row .own m (v ∷ []))) ⊛ raw (ensured 𝓤 H A reads.ended (reads.clauses 𝓤 H A at-mem run) tt (h, (n, tt)) tt m)))) (id⊢ 𝓤 _) $ await ! tt $ pick ! (λ m.
-            split ! $ move ! (1 ∷ []) $ use1 W (some (λ (ws : Lasts reads.ended tt (h, (n, tt))). ‵ (lasts reads.ended tt (h, (n, tt)) ws) ⊛ raw (fact 𝓤 (m ≡ doneOf (stepOf h (read n)) .answer)))) (id⊢ 𝓤 _) $ pick ! (λ ws.
-            split ! $ move ! (1 ∷ []) $ heard ! (m ≡ doneOf (stepOf h (read n)) .answer) (λ e. drop ! $ split ! $ drop ! $
+            use0 W (raw ((Reads 𝓤 H A at-mem run) .pre (to-read n))) (asked-read n n-fits was) $
+            calls-at-last ! fm (Reads 𝓤 H A at-mem run) known-reads (to-read n) (and-then ! (load ! (from ! (stop !)) (look ! 31 refl)) (and-then ! (load ! (from ! (stop !)) (look ! 14 refl)) (no-more !))) (λ v.
+            use1 W (later (some (λ (m : Answer). (‵ ftrue ⊛ ‵ (Answer-row.the-row .own m (v ∷ []))) ⊛ raw (ensured 𝓤 H A reads.ended (reads.clauses 𝓤 H A at-mem run) tt (args-read n) tt m)))) (id⊢ 𝓤 _) $ await ! tt $ pick ! (λ m.
+            split ! $ move ! (1 ∷ []) $ use1 W (some (λ (ws : Lasts reads.ended tt (args-read n)). ‵ (lasts reads.ended tt (args-read n) ws) ⊛ raw (fact 𝓤 (m ≡ answer (read n))))) (id⊢ 𝓤 _) $ pick ! (λ ws.
+            split ! $ move ! (1 ∷ []) $ heard ! (m ≡ answer (read n)) (λ e. drop ! $ split ! $ drop ! $
             peeks ! Answer-row.the-row (Is Answer-row.the-row) (shows 𝓤 H A Answer-row.the-row) m (v ∷ []) (λ is. drop ! $
-            land-last ! (from ! (stop !)) (init ! 19 refl (EL.lawful Answer-row.the-type Answer-row′.the-laws 𝓤 H A W tt .typed m _ is .0)) $ rewrite ! 19 (λ (u : Val). ‵ (fat fullShare Answer-row′.mir l12 0 u)) (ap only (EL.tells Answer-row.the-type Answer-row′.the-laws m _ is)) refl $
-            exec ! C Λ En pieces.t-2 (atRet En (Post call)) $ forget ! 12 refl $ forget ! 20 refl $
-            keep ! (0 ∷ 5 ∷ 6 ∷ 1 ∷ 7 ∷ 8 ∷ 9 ∷ 10 ∷ 11 ∷ 12 ∷ 13 ∷ 14 ∷ 15 ∷ 16 ∷ 17 ∷ 18 ∷ 19 ∷ 20 ∷ 21 ∷ 22 ∷ 23 ∷ 24 ∷ 25 ∷ 26 ∷ 27 ∷ 28 ∷ 29 ∷ 30 ∷ 31 ∷ 32 ∷ 33 ∷ 34 ∷ 35 ∷ 36 ∷ 37 ∷ 38 ∷ 39 ∷ 40 ∷ 41 ∷ 42 ∷ 43 ∷ 44 ∷ 45 ∷ 46 ∷ 47 ∷ 48 ∷ 49 ∷ 50 ∷ []) $ answered h m room (sym (read-unchanged h n) ∙ ap next s, e ∙ ap answer s, z) (answer-is m _ is) refl)))))))
+            land-last ! (from ! (stop !)) (init ! 27 refl (EL.lawful Answer-row.the-type Answer-row′.the-laws 𝓤 H A W tt .typed m _ is .0)) $ rewrite ! 27 (λ (u : Val). ‵ (fat fullShare Answer-row′.mir l20 0 u)) (ap only (EL.tells Answer-row.the-type Answer-row′.the-laws m _ is)) refl $
+            exec ! C Λ En pieces.t-2 (atRet En (Post call)) $ forget ! 13 refl $ forget ! 30 refl $
+            keep ! (0 ∷ 5 ∷ 6 ∷ 1 ∷ 7 ∷ 8 ∷ 9 ∷ 10 ∷ 11 ∷ 12 ∷ 13 ∷ 14 ∷ 15 ∷ 16 ∷ 17 ∷ 18 ∷ 19 ∷ 20 ∷ 21 ∷ 22 ∷ 23 ∷ 24 ∷ 25 ∷ 26 ∷ 27 ∷ 28 ∷ 29 ∷ 30 ∷ 31 ∷ 32 ∷ 33 ∷ 34 ∷ 35 ∷ 36 ∷ 37 ∷ 38 ∷ 39 ∷ 40 ∷ 41 ∷ 42 ∷ 43 ∷ 44 ∷ 45 ∷ 46 ∷ 47 ∷ 48 ∷ 49 ∷ 50 ∷ 51 ∷ 52 ∷ 53 ∷ 54 ∷ 55 ∷ 56 ∷ 57 ∷ 58 ∷ 59 ∷ 60 ∷ 61 ∷ 62 ∷ 63 ∷ 64 ∷ 65 ∷ 66 ∷ 67 ∷ 68 ∷ 69 ∷ 70 ∷ 71 ∷ 72 ∷ 73 ∷ 74 ∷ 75 ∷ 76 ∷ 77 ∷ 78 ∷ 79 ∷ 80 ∷ 81 ∷ 82 ∷ 83 ∷ 84 ∷ 85 ∷ 86 ∷ []) $ answered h m room (sym (read-unchanged h n) ∙ ap next s, e ∙ ap answer s, z) (answer-is m _ is) refl)))))))
 
-        -- a write
-        writing : {y2 : Val} (n u : ℕ) → n < 2 ^ 8 → u < 2 ^ 8 → write n u ≡ stepFor call (bytesIn f) room → room ≡ roomFor h call room → Sq W (‵ Rec ∷ ‵ (flft κ q) ∷ ‵ Room′ ∷ ‵ (flft κ-room q-room) ∷ ‵ (froom Answer-row′.mir l0 0) ∷ ‵ (fat fullShare (tyRef (named 0) mut rec-ty) l1 0 (vptr b o)) ∷ ‵ (fat fullShare Call-row′.mir l2 0 y2) ∷ ‵ (fat fullShare Frame-row′.mir l3 0 (LL.val Frame-row.the-type Frame-row′.the-laws f)) ∷ ‵ (fat fullShare (sliceTy (tyRef (named 1) mut (tyInt w8))) l4 0 s-room) ∷ ‵ (froom (tyInt w8) l5 0) ∷ ‵ (fat fullShare (tyInt w8) l6 0 (vint w8 n)) ∷ ‵ (fat fullShare (tyInt w8) l7 0 (vint w8 u)) ∷ ‵ (froom out-ty l8 0) ∷ ‵ (froom tyBool l9 0) ∷ ‵ (froom out-ty l10 0) ∷ ‵ (froom out-ty l11 0) ∷ ‵ (froom Answer-row′.mir l12 0) ∷ ‵ (froom T′.mir l13 0) ∷ ‵ (froom T′.mir l14 0) ∷ ‵ (froom (tyRef erased mut rec-ty) l15 0) ∷ ‵ (froom T′.mir l16 0) ∷ ‵ (froom (tyRef erased mut rec-ty) l17 0) ∷ ‵ (froom T′.mir l18 0) ∷ ‵ (froom (tyRef erased mut (tyInt w8)) l19 0) ∷ ‵ (froom (sliceTy (tyRef erased mut (tyInt w8))) l20 0) ∷ ‵ (froom (tyRef erased mut rec-ty) l21 0) ∷ Dies) (runs C Λ En code-writing (anyQ (Next call)))
-        writing n u n-fits u-fits s z =
+        -- what `Write` changes is carried out
+        carried-write : {y2 y7 y8 y24 : Val} (x : Change) → Is S.the-row x (LL.val S.the-type S′.the-laws x ∷ []) → changed h x ≡ doneOf (stepOf h (stepFor call (bytesIn f) room)) → (zs : List ℕ) → zs ≡ roomFor h call room → length zs ≡ length room → Sq W (‵ (fobs γ (T.the-row .coded .code h)) ∷ ‵ (fbor κ (Body (mem T.the-row) b o γ)) ∷ ‵ (flft κ q) ∷ ‵ (flft κ-room q-room) ∷ ‵ (finally u8 γ-room zs) ∷ ‵ (froom Answer-row′.mir l0 0) ∷ ‵ (fat fullShare (tyRef (named 0) mut rec-ty) l1 0 (vptr b o)) ∷ ‵ (fat fullShare Call-row′.mir l2 0 y2) ∷ ‵ (fat fullShare Frame-row′.mir l3 0 (LL.val Frame-row.the-type Frame-row′.the-laws f)) ∷ ‵ (fat fullShare (sliceTy (tyRef (named 1) mut (tyInt w8))) l4 0 s-room) ∷ ‵ (froom out-ty l5 0) ∷ ‵ (froom (tyInt w8) l6 0) ∷ ‵ (fat fullShare (tyInt w8) l7 0 y7) ∷ ‵ (fat fullShare (tyInt w8) l8 0 y8) ∷ ‵ (fat fullShare out-ty l9 0 (LL.val S.the-type S′.the-laws x)) ∷ ‵ (froom Sync-row′.mir l10 0) ∷ ‵ (froom out-ty l11 0) ∷ ‵ (froom out-ty l12 0) ∷ ‵ (froom (tyInt w8) l13 0) ∷ ‵ (froom out-ty l14 0) ∷ ‵ (froom tyBool l15 0) ∷ ‵ (froom out-ty l16 0) ∷ ‵ (froom Fault-row′.mir l17 0) ∷ ‵ (froom out-ty l18 0) ∷ ‵ (froom out-ty l19 0) ∷ ‵ (froom Answer-row′.mir l20 0) ∷ ‵ (froom T′.mir l21 0) ∷ ‵ (froom (tyRef erased mut rec-ty) l22 0) ∷ ‵ (froom T′.mir l23 0) ∷ ‵ (fat fullShare T′.mir l24 0 y24) ∷ ‵ (froom (tyRef erased mut rec-ty) l25 0) ∷ ‵ (froom T′.mir l26 0) ∷ ‵ (froom (tyRef erased mut rec-ty) l27 0) ∷ ‵ (froom T′.mir l28 0) ∷ ‵ (froom (tyRef erased mut rec-ty) l29 0) ∷ ‵ (froom T′.mir l30 0) ∷ ‵ (froom (tyRef erased mut (tyInt w8)) l31 0) ∷ ‵ (froom (sliceTy (tyRef erased mut (tyInt w8))) l32 0) ∷ ‵ (froom (tyRef erased mut rec-ty) l33 0) ∷ ‵ (froom T′.mir l34 0) ∷ ‵ (froom (tyRef erased mut rec-ty) l35 0) ∷ ‵ (froom T′.mir l36 0) ∷ ‵ (froom (tyRef erased mut rec-ty) l37 0) ∷ ‵ (froom T′.mir l38 0) ∷ ‵ (froom (tyRef erased mut rec-ty) l39 0) ∷ Dies) (runs C Λ En (carrying 25 9) (anyQ (Next call)))
+        carried-write x x-is e zs z l =
+            assigns ! (addr ! (from ! (hop ! (look ! 6 refl) (stop !)))) (from ! (stop !)) (init ! 30 refl (tt, tt)) $
+            group ! 3 $ use1 W (raw ((Carries 𝓤 H A at-mem run) .pre (to-carry x))) (asked-carry x x-is) $
+            calls-at-last ! fm (Carries 𝓤 H A at-mem run) known-carries (to-carry x) (and-then ! (load ! (from ! (stop !)) (look ! 28 refl)) (and-then ! (load ! (from ! (stop !)) (look ! 12 refl)) (no-more !))) (λ v.
+            use1 W (later (some (λ (m : Answer). ((‵ (flft κ q) ⊛ ‵ ftrue) ⊛ ‵ (Answer-row.the-row .own m (v ∷ []))) ⊛ raw (ensured 𝓤 H A carries.ended (carries.clauses 𝓤 H A at-mem run) (κ, tt) (args-carry x) tt m)))) (id⊢ 𝓤 _) $ await ! tt $ pick ! (λ m.
+            split ! $ move ! (1 ∷ []) $ use1 W (some (λ (ws : Lasts carries.ended (κ, tt) (args-carry x)). ‵ (lasts carries.ended (κ, tt) (args-carry x) ws) ⊛ raw (fact 𝓤 ((ws .0 ≡ changed h x .next) × (m ≡ x .answer))))) (id⊢ 𝓤 _) $ pick ! (λ ws.
+            split ! $ move ! (1 ∷ []) $ heard ! ((ws .0 ≡ changed h x .next) × (m ≡ x .answer)) (λ d. fsplit ! $
+            move ! (2 ∷ []) $ split ! $ move ! (1 ∷ []) $ peeks ! Answer-row.the-row (Is Answer-row.the-row) (shows 𝓤 H A Answer-row.the-row) m (v ∷ []) (λ is. drop ! $ split ! $
+            land-last ! (from ! (stop !)) (init ! 26 refl (EL.lawful Answer-row.the-type Answer-row′.the-laws 𝓤 H A W tt .typed m _ is .0)) $ rewrite ! 26 (λ (u : Val). ‵ (fat fullShare Answer-row′.mir l20 0 u)) (ap only (EL.tells Answer-row.the-type Answer-row′.the-laws m _ is)) refl $
+            exec ! C Λ En pieces.t-2 (atRet En (Post call)) $ forget ! 13 refl $ forget ! 14 refl $ forget ! 15 refl $ forget ! 30 refl $ forget ! 31 refl $
+            keep ! (2 ∷ 0 ∷ 4 ∷ 5 ∷ 6 ∷ 7 ∷ 8 ∷ 9 ∷ 10 ∷ 11 ∷ 12 ∷ 13 ∷ 14 ∷ 15 ∷ 16 ∷ 17 ∷ 18 ∷ 19 ∷ 20 ∷ 21 ∷ 22 ∷ 23 ∷ 24 ∷ 25 ∷ 26 ∷ 27 ∷ 28 ∷ 29 ∷ 30 ∷ 31 ∷ 32 ∷ 33 ∷ 34 ∷ 35 ∷ 36 ∷ 37 ∷ 38 ∷ 39 ∷ 40 ∷ 41 ∷ 42 ∷ 43 ∷ 44 ∷ 45 ∷ 46 ∷ 47 ∷ 48 ∷ 49 ∷ 50 ∷ 51 ∷ 52 ∷ 53 ∷ 54 ∷ 55 ∷ 56 ∷ 57 ∷ 58 ∷ 59 ∷ 60 ∷ 61 ∷ 62 ∷ 63 ∷ 64 ∷ 65 ∷ 66 ∷ 67 ∷ 68 ∷ 69 ∷ 70 ∷ 71 ∷ 72 ∷ 73 ∷ 74 ∷ 75 ∷ 76 ∷ 77 ∷ 78 ∷ 79 ∷ 80 ∷ 81 ∷ 82 ∷ 83 ∷ 84 ∷ 85 ∷ []) $ answered (ws .0) m zs (d .0 ∙ ap (λ (u : Done). u .next) e, d .1 ∙ ap (λ (u : Done). u .answer) e, z) (answer-is m _ is) l)))))
+
+        -- Write
+        on-write : {y2 : Val} (n : ℕ) (u : ℕ) → n < 2 ^ 8 → u < 2 ^ 8 → write n u ≡ stepFor call (bytesIn f) room → room ≡ roomFor h call room → Sq W (‵ Rec ∷ ‵ (flft κ q) ∷ ‵ Room′ ∷ ‵ (flft κ-room q-room) ∷ ‵ (froom Answer-row′.mir l0 0) ∷ ‵ (fat fullShare (tyRef (named 0) mut rec-ty) l1 0 (vptr b o)) ∷ ‵ (fat fullShare Call-row′.mir l2 0 y2) ∷ ‵ (fat fullShare Frame-row′.mir l3 0 (LL.val Frame-row.the-type Frame-row′.the-laws f)) ∷ ‵ (fat fullShare (sliceTy (tyRef (named 1) mut (tyInt w8))) l4 0 s-room) ∷ ‵ (froom out-ty l5 0) ∷ ‵ (froom (tyInt w8) l6 0) ∷ ‵ (fat fullShare (tyInt w8) l7 0 (vint w8 n)) ∷ ‵ (fat fullShare (tyInt w8) l8 0 (vint w8 u)) ∷ ‵ (froom out-ty l9 0) ∷ ‵ (froom Sync-row′.mir l10 0) ∷ ‵ (froom out-ty l11 0) ∷ ‵ (froom out-ty l12 0) ∷ ‵ (froom (tyInt w8) l13 0) ∷ ‵ (froom out-ty l14 0) ∷ ‵ (froom tyBool l15 0) ∷ ‵ (froom out-ty l16 0) ∷ ‵ (froom Fault-row′.mir l17 0) ∷ ‵ (froom out-ty l18 0) ∷ ‵ (froom out-ty l19 0) ∷ ‵ (froom Answer-row′.mir l20 0) ∷ ‵ (froom T′.mir l21 0) ∷ ‵ (froom (tyRef erased mut rec-ty) l22 0) ∷ ‵ (froom T′.mir l23 0) ∷ ‵ (froom T′.mir l24 0) ∷ ‵ (froom (tyRef erased mut rec-ty) l25 0) ∷ ‵ (froom T′.mir l26 0) ∷ ‵ (froom (tyRef erased mut rec-ty) l27 0) ∷ ‵ (froom T′.mir l28 0) ∷ ‵ (froom (tyRef erased mut rec-ty) l29 0) ∷ ‵ (froom T′.mir l30 0) ∷ ‵ (froom (tyRef erased mut (tyInt w8)) l31 0) ∷ ‵ (froom (sliceTy (tyRef erased mut (tyInt w8))) l32 0) ∷ ‵ (froom (tyRef erased mut rec-ty) l33 0) ∷ ‵ (froom T′.mir l34 0) ∷ ‵ (froom (tyRef erased mut rec-ty) l35 0) ∷ ‵ (froom T′.mir l36 0) ∷ ‵ (froom (tyRef erased mut rec-ty) l37 0) ∷ ‵ (froom T′.mir l38 0) ∷ ‵ (froom (tyRef erased mut rec-ty) l39 0) ∷ Dies) (runs C Λ En code-write (anyQ (Next call)))
+        on-write n u n-fits u-fits s z =
             fsplit3 ! $ drop ! $
             opens ! tt T.the-row {h = h} b o (λ vs. spelt ! T.the-row (Is T.the-row) (shows 𝓤 H A T.the-row) (LL.vals T.the-type T′.the-laws) (LL.tells T.the-type T′.the-laws) fullShare h vs b o $
             move ! (1 ∷ []) $ peeks ! T.the-row (Is T.the-row) (shows 𝓤 H A T.the-row) h (mach h ∷ []) (λ was.
-            assigns ! (of-opd ! (load ! (from ! (hop ! (look ! 8 refl) (stop !))) (look-raw ! 1 refl))) (from ! (stop !)) (init ! 21 refl (LL.lawful T.the-type T′.the-laws 𝓤 H A W .typed h _ was .0)) $
+            assigns ! (of-opd ! (load ! (from ! (hop ! (look ! 8 refl) (stop !))) (look-raw ! 1 refl))) (from ! (stop !)) (init ! 31 refl (LL.lawful T.the-type T′.the-laws 𝓤 H A W .typed h _ was .0)) $
             move ! (1 ∷ 0 ∷ 2 ∷ 3 ∷ 4 ∷ []) $ closes ! tt T.the-row h (mach h ∷ []) b o $
             move ! (3 ∷ []) $ fsplit ! $ move ! (1 ∷ []) $ fsplit ! $
             use1 W (‵ (fres γ-room (codedHoleys u8 .code (heres u8 room)))) (W .names .obs-res γ-room (codedHoleys u8 .code (heres u8 room))) $ use1 W (‵ (finally u8 γ-room room)) (res-finally 𝓤 H A W (named 1) κ-room u8 γ-room room) $
-            use0 W (raw ((Writes 𝓤 H A at-mem run) .pre (to-writes n u))) (asked-writes n u n-fits u-fits was) $
-            calls-at ! fm (Writes 𝓤 H A at-mem run) known-writes (to-writes n u) (and-then ! (load ! (from ! (stop !)) (look ! 22 refl)) (and-then ! (load ! (from ! (stop !)) (look ! 14 refl)) (and-then ! (load ! (from ! (stop !)) (look ! 15 refl)) (no-more !)))) (λ v.
-            use1 W (later (some (λ (x : Change). (‵ ftrue ⊛ ‵ (S.the-row .own x (v ∷ []))) ⊛ raw (ensured 𝓤 H A writes.ended (writes.clauses 𝓤 H A at-mem run) tt (args-writes n u) tt x)))) (id⊢ 𝓤 _) $ await ! tt $ pick ! (λ x.
-            split ! $ move ! (1 ∷ []) $ use1 W (some (λ (ws : Lasts writes.ended tt (args-writes n u)). ‵ (lasts writes.ended tt (args-writes n u) ws) ⊛ raw (fact 𝓤 (changed h x ≡ doneOf (stepOf h (write n u)))))) (id⊢ 𝓤 _) $ pick ! (λ ws.
+            use0 W (raw ((Writes 𝓤 H A at-mem run) .pre (to-write n u))) (asked-write n u n-fits u-fits was) $
+            calls-at ! fm (Writes 𝓤 H A at-mem run) known-writes (to-write n u) (and-then ! (load ! (from ! (stop !)) (look ! 32 refl)) (and-then ! (load ! (from ! (stop !)) (look ! 15 refl)) (and-then ! (load ! (from ! (stop !)) (look ! 16 refl)) (no-more !)))) (λ v.
+            use1 W (later (some (λ (x : Change). (‵ ftrue ⊛ ‵ (S.the-row .own x (v ∷ []))) ⊛ raw (ensured 𝓤 H A writes.ended (writes.clauses 𝓤 H A at-mem run) tt (args-write n u) tt x)))) (id⊢ 𝓤 _) $ await ! tt $ pick ! (λ x.
+            split ! $ move ! (1 ∷ []) $ use1 W (some (λ (ws : Lasts writes.ended tt (args-write n u)). ‵ (lasts writes.ended tt (args-write n u) ws) ⊛ raw (fact 𝓤 (changed h x ≡ doneOf (stepOf h (write n u)))))) (id⊢ 𝓤 _) $ pick ! (λ ws.
             split ! $ move ! (1 ∷ []) $ heard ! (changed h x ≡ doneOf (stepOf h (write n u))) (λ e. drop ! $ split ! $ drop ! $
             peeks ! S.the-row (Is S.the-row) (shows 𝓤 H A S.the-row) x (v ∷ []) (λ is. drop ! $
-            land ! (from ! (stop !)) (init ! 15 refl (LL.lawful S.the-type S′.the-laws 𝓤 H A W .typed x _ is .0)) $ rewrite ! 15 (λ (u : Val). ‵ (fat fullShare out-ty l8 0 u)) (ap only (LL.tells S.the-type S′.the-laws x _ is)) refl $
-            keep ! (3 ∷ 4 ∷ 5 ∷ 6 ∷ 0 ∷ 7 ∷ 8 ∷ 9 ∷ 10 ∷ 11 ∷ 12 ∷ 13 ∷ 14 ∷ 15 ∷ 16 ∷ 17 ∷ 18 ∷ 19 ∷ 20 ∷ 21 ∷ 22 ∷ 23 ∷ 24 ∷ 25 ∷ 26 ∷ 27 ∷ 28 ∷ 29 ∷ 30 ∷ 31 ∷ 32 ∷ 33 ∷ 34 ∷ 35 ∷ 36 ∷ 37 ∷ 38 ∷ 39 ∷ 40 ∷ 41 ∷ 42 ∷ 43 ∷ 44 ∷ 45 ∷ 46 ∷ 47 ∷ 48 ∷ 49 ∷ 50 ∷ []) $ carried-8 x (change-is x _ is) (e ∙ ap (λ (s : Step). doneOf (stepOf h s)) s) room z refl)))))))
+            land ! (from ! (stop !)) (init ! 16 refl (LL.lawful S.the-type S′.the-laws 𝓤 H A W .typed x _ is .0)) $ rewrite ! 16 (λ (u : Val). ‵ (fat fullShare out-ty l9 0 u)) (ap only (LL.tells S.the-type S′.the-laws x _ is)) refl $
+            keep ! (3 ∷ 4 ∷ 5 ∷ 6 ∷ 0 ∷ 7 ∷ 8 ∷ 9 ∷ 10 ∷ 11 ∷ 12 ∷ 13 ∷ 14 ∷ 15 ∷ 16 ∷ 17 ∷ 18 ∷ 19 ∷ 20 ∷ 21 ∷ 22 ∷ 23 ∷ 24 ∷ 25 ∷ 26 ∷ 27 ∷ 28 ∷ 29 ∷ 30 ∷ 31 ∷ 32 ∷ 33 ∷ 34 ∷ 35 ∷ 36 ∷ 37 ∷ 38 ∷ 39 ∷ 40 ∷ 41 ∷ 42 ∷ 43 ∷ 44 ∷ 45 ∷ 46 ∷ 47 ∷ 48 ∷ 49 ∷ 50 ∷ 51 ∷ 52 ∷ 53 ∷ 54 ∷ 55 ∷ 56 ∷ 57 ∷ 58 ∷ 59 ∷ 60 ∷ 61 ∷ 62 ∷ 63 ∷ 64 ∷ 65 ∷ 66 ∷ 67 ∷ 68 ∷ 69 ∷ 70 ∷ 71 ∷ 72 ∷ 73 ∷ 74 ∷ 75 ∷ 76 ∷ 77 ∷ 78 ∷ 79 ∷ 80 ∷ 81 ∷ 82 ∷ 83 ∷ 84 ∷ 85 ∷ 86 ∷ []) $ carried-write x (change-is x _ is) (e ∙ ap (λ (s : Step). doneOf (stepOf h s)) s) room z refl)))))))
 
-        -- a frame
-        framing : {y2 : Val} (good : Bool) → frameStep good (bytesIn f) ≡ stepFor call (bytesIn f) room → room ≡ roomFor h call room → Sq W (‵ Rec ∷ ‵ (flft κ q) ∷ ‵ Room′ ∷ ‵ (flft κ-room q-room) ∷ ‵ (froom Answer-row′.mir l0 0) ∷ ‵ (fat fullShare (tyRef (named 0) mut rec-ty) l1 0 (vptr b o)) ∷ ‵ (fat fullShare Call-row′.mir l2 0 y2) ∷ ‵ (fat fullShare Frame-row′.mir l3 0 (LL.val Frame-row.the-type Frame-row′.the-laws f)) ∷ ‵ (fat fullShare (sliceTy (tyRef (named 1) mut (tyInt w8))) l4 0 s-room) ∷ ‵ (froom (tyInt w8) l5 0) ∷ ‵ (froom (tyInt w8) l6 0) ∷ ‵ (froom (tyInt w8) l7 0) ∷ ‵ (froom out-ty l8 0) ∷ ‵ (fat fullShare tyBool l9 0 (vbool good)) ∷ ‵ (froom out-ty l10 0) ∷ ‵ (froom out-ty l11 0) ∷ ‵ (froom Answer-row′.mir l12 0) ∷ ‵ (froom T′.mir l13 0) ∷ ‵ (froom T′.mir l14 0) ∷ ‵ (froom (tyRef erased mut rec-ty) l15 0) ∷ ‵ (froom T′.mir l16 0) ∷ ‵ (froom (tyRef erased mut rec-ty) l17 0) ∷ ‵ (froom T′.mir l18 0) ∷ ‵ (froom (tyRef erased mut (tyInt w8)) l19 0) ∷ ‵ (froom (sliceTy (tyRef erased mut (tyInt w8))) l20 0) ∷ ‵ (froom (tyRef erased mut rec-ty) l21 0) ∷ Dies) (runs C Λ En code-framing (anyQ (Next call)))
-        framing good s z =
+        -- what `Sync` changes is carried out
+        carried-sync : {y2 y10 y26 : Val} (x : Change) → Is S.the-row x (LL.val S.the-type S′.the-laws x ∷ []) → changed h x ≡ doneOf (stepOf h (stepFor call (bytesIn f) room)) → (zs : List ℕ) → zs ≡ roomFor h call room → length zs ≡ length room → Sq W (‵ (fobs γ (T.the-row .coded .code h)) ∷ ‵ (fbor κ (Body (mem T.the-row) b o γ)) ∷ ‵ (flft κ q) ∷ ‵ (flft κ-room q-room) ∷ ‵ (finally u8 γ-room zs) ∷ ‵ (froom Answer-row′.mir l0 0) ∷ ‵ (fat fullShare (tyRef (named 0) mut rec-ty) l1 0 (vptr b o)) ∷ ‵ (fat fullShare Call-row′.mir l2 0 y2) ∷ ‵ (fat fullShare Frame-row′.mir l3 0 (LL.val Frame-row.the-type Frame-row′.the-laws f)) ∷ ‵ (fat fullShare (sliceTy (tyRef (named 1) mut (tyInt w8))) l4 0 s-room) ∷ ‵ (froom out-ty l5 0) ∷ ‵ (froom (tyInt w8) l6 0) ∷ ‵ (froom (tyInt w8) l7 0) ∷ ‵ (froom (tyInt w8) l8 0) ∷ ‵ (froom out-ty l9 0) ∷ ‵ (fat fullShare Sync-row′.mir l10 0 y10) ∷ ‵ (fat fullShare out-ty l11 0 (LL.val S.the-type S′.the-laws x)) ∷ ‵ (froom out-ty l12 0) ∷ ‵ (froom (tyInt w8) l13 0) ∷ ‵ (froom out-ty l14 0) ∷ ‵ (froom tyBool l15 0) ∷ ‵ (froom out-ty l16 0) ∷ ‵ (froom Fault-row′.mir l17 0) ∷ ‵ (froom out-ty l18 0) ∷ ‵ (froom out-ty l19 0) ∷ ‵ (froom Answer-row′.mir l20 0) ∷ ‵ (froom T′.mir l21 0) ∷ ‵ (froom (tyRef erased mut rec-ty) l22 0) ∷ ‵ (froom T′.mir l23 0) ∷ ‵ (froom T′.mir l24 0) ∷ ‵ (froom (tyRef erased mut rec-ty) l25 0) ∷ ‵ (fat fullShare T′.mir l26 0 y26) ∷ ‵ (froom (tyRef erased mut rec-ty) l27 0) ∷ ‵ (froom T′.mir l28 0) ∷ ‵ (froom (tyRef erased mut rec-ty) l29 0) ∷ ‵ (froom T′.mir l30 0) ∷ ‵ (froom (tyRef erased mut (tyInt w8)) l31 0) ∷ ‵ (froom (sliceTy (tyRef erased mut (tyInt w8))) l32 0) ∷ ‵ (froom (tyRef erased mut rec-ty) l33 0) ∷ ‵ (froom T′.mir l34 0) ∷ ‵ (froom (tyRef erased mut rec-ty) l35 0) ∷ ‵ (froom T′.mir l36 0) ∷ ‵ (froom (tyRef erased mut rec-ty) l37 0) ∷ ‵ (froom T′.mir l38 0) ∷ ‵ (froom (tyRef erased mut rec-ty) l39 0) ∷ Dies) (runs C Λ En (carrying 27 11) (anyQ (Next call)))
+        carried-sync x x-is e zs z l =
+            assigns ! (addr ! (from ! (hop ! (look ! 6 refl) (stop !)))) (from ! (stop !)) (init ! 32 refl (tt, tt)) $
+            group ! 3 $ use1 W (raw ((Carries 𝓤 H A at-mem run) .pre (to-carry x))) (asked-carry x x-is) $
+            calls-at-last ! fm (Carries 𝓤 H A at-mem run) known-carries (to-carry x) (and-then ! (load ! (from ! (stop !)) (look ! 30 refl)) (and-then ! (load ! (from ! (stop !)) (look ! 14 refl)) (no-more !))) (λ v.
+            use1 W (later (some (λ (m : Answer). ((‵ (flft κ q) ⊛ ‵ ftrue) ⊛ ‵ (Answer-row.the-row .own m (v ∷ []))) ⊛ raw (ensured 𝓤 H A carries.ended (carries.clauses 𝓤 H A at-mem run) (κ, tt) (args-carry x) tt m)))) (id⊢ 𝓤 _) $ await ! tt $ pick ! (λ m.
+            split ! $ move ! (1 ∷ []) $ use1 W (some (λ (ws : Lasts carries.ended (κ, tt) (args-carry x)). ‵ (lasts carries.ended (κ, tt) (args-carry x) ws) ⊛ raw (fact 𝓤 ((ws .0 ≡ changed h x .next) × (m ≡ x .answer))))) (id⊢ 𝓤 _) $ pick ! (λ ws.
+            split ! $ move ! (1 ∷ []) $ heard ! ((ws .0 ≡ changed h x .next) × (m ≡ x .answer)) (λ d. fsplit ! $
+            move ! (2 ∷ []) $ split ! $ move ! (1 ∷ []) $ peeks ! Answer-row.the-row (Is Answer-row.the-row) (shows 𝓤 H A Answer-row.the-row) m (v ∷ []) (λ is. drop ! $ split ! $
+            land-last ! (from ! (stop !)) (init ! 26 refl (EL.lawful Answer-row.the-type Answer-row′.the-laws 𝓤 H A W tt .typed m _ is .0)) $ rewrite ! 26 (λ (u : Val). ‵ (fat fullShare Answer-row′.mir l20 0 u)) (ap only (EL.tells Answer-row.the-type Answer-row′.the-laws m _ is)) refl $
+            exec ! C Λ En pieces.t-2 (atRet En (Post call)) $ forget ! 16 refl $ forget ! 17 refl $ forget ! 32 refl $ forget ! 33 refl $
+            keep ! (2 ∷ 0 ∷ 4 ∷ 5 ∷ 6 ∷ 7 ∷ 8 ∷ 9 ∷ 10 ∷ 11 ∷ 12 ∷ 13 ∷ 14 ∷ 15 ∷ 16 ∷ 17 ∷ 18 ∷ 19 ∷ 20 ∷ 21 ∷ 22 ∷ 23 ∷ 24 ∷ 25 ∷ 26 ∷ 27 ∷ 28 ∷ 29 ∷ 30 ∷ 31 ∷ 32 ∷ 33 ∷ 34 ∷ 35 ∷ 36 ∷ 37 ∷ 38 ∷ 39 ∷ 40 ∷ 41 ∷ 42 ∷ 43 ∷ 44 ∷ 45 ∷ 46 ∷ 47 ∷ 48 ∷ 49 ∷ 50 ∷ 51 ∷ 52 ∷ 53 ∷ 54 ∷ 55 ∷ 56 ∷ 57 ∷ 58 ∷ 59 ∷ 60 ∷ 61 ∷ 62 ∷ 63 ∷ 64 ∷ 65 ∷ 66 ∷ 67 ∷ 68 ∷ 69 ∷ 70 ∷ 71 ∷ 72 ∷ 73 ∷ 74 ∷ 75 ∷ 76 ∷ 77 ∷ 78 ∷ 79 ∷ 80 ∷ 81 ∷ 82 ∷ 83 ∷ 84 ∷ 85 ∷ []) $ answered (ws .0) m zs (d .0 ∙ ap (λ (u : Done). u .next) e, d .1 ∙ ap (λ (u : Done). u .answer) e, z) (answer-is m _ is) l)))))
+
+        -- Sync
+        on-sync : {y2 : Val} (k : SyncKind) → Is Sync-row.the-row k (EL.val Sync-row.the-type Sync-row′.the-laws k ∷ []) → sync k ≡ stepFor call (bytesIn f) room → room ≡ roomFor h call room → Sq W (‵ Rec ∷ ‵ (flft κ q) ∷ ‵ Room′ ∷ ‵ (flft κ-room q-room) ∷ ‵ (froom Answer-row′.mir l0 0) ∷ ‵ (fat fullShare (tyRef (named 0) mut rec-ty) l1 0 (vptr b o)) ∷ ‵ (fat fullShare Call-row′.mir l2 0 y2) ∷ ‵ (fat fullShare Frame-row′.mir l3 0 (LL.val Frame-row.the-type Frame-row′.the-laws f)) ∷ ‵ (fat fullShare (sliceTy (tyRef (named 1) mut (tyInt w8))) l4 0 s-room) ∷ ‵ (froom out-ty l5 0) ∷ ‵ (froom (tyInt w8) l6 0) ∷ ‵ (froom (tyInt w8) l7 0) ∷ ‵ (froom (tyInt w8) l8 0) ∷ ‵ (froom out-ty l9 0) ∷ ‵ (fat fullShare Sync-row′.mir l10 0 (EL.val Sync-row.the-type Sync-row′.the-laws k)) ∷ ‵ (froom out-ty l11 0) ∷ ‵ (froom out-ty l12 0) ∷ ‵ (froom (tyInt w8) l13 0) ∷ ‵ (froom out-ty l14 0) ∷ ‵ (froom tyBool l15 0) ∷ ‵ (froom out-ty l16 0) ∷ ‵ (froom Fault-row′.mir l17 0) ∷ ‵ (froom out-ty l18 0) ∷ ‵ (froom out-ty l19 0) ∷ ‵ (froom Answer-row′.mir l20 0) ∷ ‵ (froom T′.mir l21 0) ∷ ‵ (froom (tyRef erased mut rec-ty) l22 0) ∷ ‵ (froom T′.mir l23 0) ∷ ‵ (froom T′.mir l24 0) ∷ ‵ (froom (tyRef erased mut rec-ty) l25 0) ∷ ‵ (froom T′.mir l26 0) ∷ ‵ (froom (tyRef erased mut rec-ty) l27 0) ∷ ‵ (froom T′.mir l28 0) ∷ ‵ (froom (tyRef erased mut rec-ty) l29 0) ∷ ‵ (froom T′.mir l30 0) ∷ ‵ (froom (tyRef erased mut (tyInt w8)) l31 0) ∷ ‵ (froom (sliceTy (tyRef erased mut (tyInt w8))) l32 0) ∷ ‵ (froom (tyRef erased mut rec-ty) l33 0) ∷ ‵ (froom T′.mir l34 0) ∷ ‵ (froom (tyRef erased mut rec-ty) l35 0) ∷ ‵ (froom T′.mir l36 0) ∷ ‵ (froom (tyRef erased mut rec-ty) l37 0) ∷ ‵ (froom T′.mir l38 0) ∷ ‵ (froom (tyRef erased mut rec-ty) l39 0) ∷ Dies) (runs C Λ En code-sync (anyQ (Next call)))
+        on-sync k k-is s z =
             fsplit3 ! $ drop ! $
             opens ! tt T.the-row {h = h} b o (λ vs. spelt ! T.the-row (Is T.the-row) (shows 𝓤 H A T.the-row) (LL.vals T.the-type T′.the-laws) (LL.tells T.the-type T′.the-laws) fullShare h vs b o $
             move ! (1 ∷ []) $ peeks ! T.the-row (Is T.the-row) (shows 𝓤 H A T.the-row) h (mach h ∷ []) (λ was.
-            assigns ! (of-opd ! (load ! (from ! (hop ! (look ! 8 refl) (stop !))) (look-raw ! 1 refl))) (from ! (stop !)) (init ! 23 refl (LL.lawful T.the-type T′.the-laws 𝓤 H A W .typed h _ was .0)) $
+            assigns ! (of-opd ! (load ! (from ! (hop ! (look ! 8 refl) (stop !))) (look-raw ! 1 refl))) (from ! (stop !)) (init ! 33 refl (LL.lawful T.the-type T′.the-laws 𝓤 H A W .typed h _ was .0)) $
             move ! (1 ∷ 0 ∷ 2 ∷ 3 ∷ 4 ∷ []) $ closes ! tt T.the-row h (mach h ∷ []) b o $
             move ! (3 ∷ []) $ fsplit ! $ move ! (1 ∷ []) $ fsplit ! $
             use1 W (‵ (fres γ-room (codedHoleys u8 .code (heres u8 room)))) (W .names .obs-res γ-room (codedHoleys u8 .code (heres u8 room))) $ use1 W (‵ (finally u8 γ-room room)) (res-finally 𝓤 H A W (named 1) κ-room u8 γ-room room) $
-            use0 W (raw ((Framed 𝓤 H A at-mem run) .pre (to-framed good))) (asked-framed good was) $
-            calls-at ! fm (Framed 𝓤 H A at-mem run) known-framed (to-framed good) (and-then ! (load ! (from ! (stop !)) (look ! 24 refl)) (and-then ! (load ! (from ! (stop !)) (look ! 17 refl)) (and-then ! (load ! (from ! (stop !)) (look ! 11 refl)) (no-more !)))) (λ v.
-            use1 W (later (some (λ (x : Change). (‵ ftrue ⊛ ‵ (S.the-row .own x (v ∷ []))) ⊛ raw (ensured 𝓤 H A framed.ended (framed.clauses 𝓤 H A at-mem run) tt (args-framed good) tt x)))) (id⊢ 𝓤 _) $ await ! tt $ pick ! (λ x.
-            split ! $ move ! (1 ∷ []) $ use1 W (some (λ (ws : Lasts framed.ended tt (args-framed good)). ‵ (lasts framed.ended tt (args-framed good) ws) ⊛ raw (fact 𝓤 (changed h x ≡ doneOf (stepOf h (frameStep good (bytesIn f))))))) (id⊢ 𝓤 _) $ pick ! (λ ws.
-            split ! $ move ! (1 ∷ []) $ heard ! (changed h x ≡ doneOf (stepOf h (frameStep good (bytesIn f)))) (λ e. drop ! $ split ! $ drop ! $
+            use0 W (raw ((Syncs 𝓤 H A at-mem run) .pre (to-sync k))) (asked-sync k k-is was) $
+            calls-at ! fm (Syncs 𝓤 H A at-mem run) known-syncs (to-sync k) (and-then ! (load ! (from ! (stop !)) (look ! 34 refl)) (and-then ! (load ! (from ! (stop !)) (look ! 18 refl)) (no-more !))) (λ v.
+            use1 W (later (some (λ (x : Change). (‵ ftrue ⊛ ‵ (S.the-row .own x (v ∷ []))) ⊛ raw (ensured 𝓤 H A syncs.ended (syncs.clauses 𝓤 H A at-mem run) tt (args-sync k) tt x)))) (id⊢ 𝓤 _) $ await ! tt $ pick ! (λ x.
+            split ! $ move ! (1 ∷ []) $ use1 W (some (λ (ws : Lasts syncs.ended tt (args-sync k)). ‵ (lasts syncs.ended tt (args-sync k) ws) ⊛ raw (fact 𝓤 (changed h x ≡ doneOf (stepOf h (sync k)))))) (id⊢ 𝓤 _) $ pick ! (λ ws.
+            split ! $ move ! (1 ∷ []) $ heard ! (changed h x ≡ doneOf (stepOf h (sync k))) (λ e. drop ! $ split ! $ drop ! $
             peeks ! S.the-row (Is S.the-row) (shows 𝓤 H A S.the-row) x (v ∷ []) (λ is. drop ! $
-            land ! (from ! (stop !)) (init ! 17 refl (LL.lawful S.the-type S′.the-laws 𝓤 H A W .typed x _ is .0)) $ rewrite ! 17 (λ (u : Val). ‵ (fat fullShare out-ty l10 0 u)) (ap only (LL.tells S.the-type S′.the-laws x _ is)) refl $
-            keep ! (3 ∷ 4 ∷ 5 ∷ 6 ∷ 0 ∷ 7 ∷ 8 ∷ 9 ∷ 10 ∷ 11 ∷ 12 ∷ 13 ∷ 14 ∷ 15 ∷ 16 ∷ 17 ∷ 18 ∷ 19 ∷ 20 ∷ 21 ∷ 22 ∷ 23 ∷ 24 ∷ 25 ∷ 26 ∷ 27 ∷ 28 ∷ 29 ∷ 30 ∷ 31 ∷ 32 ∷ 33 ∷ 34 ∷ 35 ∷ 36 ∷ 37 ∷ 38 ∷ 39 ∷ 40 ∷ 41 ∷ 42 ∷ 43 ∷ 44 ∷ 45 ∷ 46 ∷ 47 ∷ 48 ∷ 49 ∷ 50 ∷ []) $ carried-10 x (change-is x _ is) (e ∙ ap (λ (s : Step). doneOf (stepOf h s)) s) room z refl)))))))
+            land ! (from ! (stop !)) (init ! 18 refl (LL.lawful S.the-type S′.the-laws 𝓤 H A W .typed x _ is .0)) $ rewrite ! 18 (λ (u : Val). ‵ (fat fullShare out-ty l11 0 u)) (ap only (LL.tells S.the-type S′.the-laws x _ is)) refl $
+            keep ! (3 ∷ 4 ∷ 5 ∷ 6 ∷ 0 ∷ 7 ∷ 8 ∷ 9 ∷ 10 ∷ 11 ∷ 12 ∷ 13 ∷ 14 ∷ 15 ∷ 16 ∷ 17 ∷ 18 ∷ 19 ∷ 20 ∷ 21 ∷ 22 ∷ 23 ∷ 24 ∷ 25 ∷ 26 ∷ 27 ∷ 28 ∷ 29 ∷ 30 ∷ 31 ∷ 32 ∷ 33 ∷ 34 ∷ 35 ∷ 36 ∷ 37 ∷ 38 ∷ 39 ∷ 40 ∷ 41 ∷ 42 ∷ 43 ∷ 44 ∷ 45 ∷ 46 ∷ 47 ∷ 48 ∷ 49 ∷ 50 ∷ 51 ∷ 52 ∷ 53 ∷ 54 ∷ 55 ∷ 56 ∷ 57 ∷ 58 ∷ 59 ∷ 60 ∷ 61 ∷ 62 ∷ 63 ∷ 64 ∷ 65 ∷ 66 ∷ 67 ∷ 68 ∷ 69 ∷ 70 ∷ 71 ∷ 72 ∷ 73 ∷ 74 ∷ 75 ∷ 76 ∷ 77 ∷ 78 ∷ 79 ∷ 80 ∷ 81 ∷ 82 ∷ 83 ∷ 84 ∷ 85 ∷ 86 ∷ []) $ carried-sync x (change-is x _ is) (e ∙ ap (λ (s : Step). doneOf (stepOf h s)) s) room z refl)))))))
 
-        -- any other call, which may fill the room
-        resting : restFor call room ≡ stepFor call (bytesIn f) room → Sq W (‵ Rec ∷ ‵ (flft κ q) ∷ ‵ Room′ ∷ ‵ (flft κ-room q-room) ∷ ‵ (froom Answer-row′.mir l0 0) ∷ ‵ (fat fullShare (tyRef (named 0) mut rec-ty) l1 0 (vptr b o)) ∷ ‵ (fat fullShare Call-row′.mir l2 0 (EL.val Call-row.the-type Call-row′.the-laws call)) ∷ ‵ (fat fullShare Frame-row′.mir l3 0 (LL.val Frame-row.the-type Frame-row′.the-laws f)) ∷ ‵ (fat fullShare (sliceTy (tyRef (named 1) mut (tyInt w8))) l4 0 s-room) ∷ ‵ (froom (tyInt w8) l5 0) ∷ ‵ (froom (tyInt w8) l6 0) ∷ ‵ (froom (tyInt w8) l7 0) ∷ ‵ (froom out-ty l8 0) ∷ ‵ (froom tyBool l9 0) ∷ ‵ (froom out-ty l10 0) ∷ ‵ (froom out-ty l11 0) ∷ ‵ (froom Answer-row′.mir l12 0) ∷ ‵ (froom T′.mir l13 0) ∷ ‵ (froom T′.mir l14 0) ∷ ‵ (froom (tyRef erased mut rec-ty) l15 0) ∷ ‵ (froom T′.mir l16 0) ∷ ‵ (froom (tyRef erased mut rec-ty) l17 0) ∷ ‵ (froom T′.mir l18 0) ∷ ‵ (froom (tyRef erased mut (tyInt w8)) l19 0) ∷ ‵ (froom (sliceTy (tyRef erased mut (tyInt w8))) l20 0) ∷ ‵ (froom (tyRef erased mut rec-ty) l21 0) ∷ Dies) (runs C Λ En code-resting (anyQ (Next call)))
-        resting s =
+        -- what `SyncDue` changes is carried out
+        carried-due : {y2 y28 : Val} (x : Change) → Is S.the-row x (LL.val S.the-type S′.the-laws x ∷ []) → changed h x ≡ doneOf (stepOf h (stepFor call (bytesIn f) room)) → (zs : List ℕ) → zs ≡ roomFor h call room → length zs ≡ length room → Sq W (‵ (fobs γ (T.the-row .coded .code h)) ∷ ‵ (fbor κ (Body (mem T.the-row) b o γ)) ∷ ‵ (flft κ q) ∷ ‵ (flft κ-room q-room) ∷ ‵ (finally u8 γ-room zs) ∷ ‵ (froom Answer-row′.mir l0 0) ∷ ‵ (fat fullShare (tyRef (named 0) mut rec-ty) l1 0 (vptr b o)) ∷ ‵ (fat fullShare Call-row′.mir l2 0 y2) ∷ ‵ (fat fullShare Frame-row′.mir l3 0 (LL.val Frame-row.the-type Frame-row′.the-laws f)) ∷ ‵ (fat fullShare (sliceTy (tyRef (named 1) mut (tyInt w8))) l4 0 s-room) ∷ ‵ (froom out-ty l5 0) ∷ ‵ (froom (tyInt w8) l6 0) ∷ ‵ (froom (tyInt w8) l7 0) ∷ ‵ (froom (tyInt w8) l8 0) ∷ ‵ (froom out-ty l9 0) ∷ ‵ (froom Sync-row′.mir l10 0) ∷ ‵ (froom out-ty l11 0) ∷ ‵ (fat fullShare out-ty l12 0 (LL.val S.the-type S′.the-laws x)) ∷ ‵ (froom (tyInt w8) l13 0) ∷ ‵ (froom out-ty l14 0) ∷ ‵ (froom tyBool l15 0) ∷ ‵ (froom out-ty l16 0) ∷ ‵ (froom Fault-row′.mir l17 0) ∷ ‵ (froom out-ty l18 0) ∷ ‵ (froom out-ty l19 0) ∷ ‵ (froom Answer-row′.mir l20 0) ∷ ‵ (froom T′.mir l21 0) ∷ ‵ (froom (tyRef erased mut rec-ty) l22 0) ∷ ‵ (froom T′.mir l23 0) ∷ ‵ (froom T′.mir l24 0) ∷ ‵ (froom (tyRef erased mut rec-ty) l25 0) ∷ ‵ (froom T′.mir l26 0) ∷ ‵ (froom (tyRef erased mut rec-ty) l27 0) ∷ ‵ (fat fullShare T′.mir l28 0 y28) ∷ ‵ (froom (tyRef erased mut rec-ty) l29 0) ∷ ‵ (froom T′.mir l30 0) ∷ ‵ (froom (tyRef erased mut (tyInt w8)) l31 0) ∷ ‵ (froom (sliceTy (tyRef erased mut (tyInt w8))) l32 0) ∷ ‵ (froom (tyRef erased mut rec-ty) l33 0) ∷ ‵ (froom T′.mir l34 0) ∷ ‵ (froom (tyRef erased mut rec-ty) l35 0) ∷ ‵ (froom T′.mir l36 0) ∷ ‵ (froom (tyRef erased mut rec-ty) l37 0) ∷ ‵ (froom T′.mir l38 0) ∷ ‵ (froom (tyRef erased mut rec-ty) l39 0) ∷ Dies) (runs C Λ En (carrying 29 12) (anyQ (Next call)))
+        carried-due x x-is e zs z l =
+            assigns ! (addr ! (from ! (hop ! (look ! 6 refl) (stop !)))) (from ! (stop !)) (init ! 34 refl (tt, tt)) $
+            group ! 3 $ use1 W (raw ((Carries 𝓤 H A at-mem run) .pre (to-carry x))) (asked-carry x x-is) $
+            calls-at-last ! fm (Carries 𝓤 H A at-mem run) known-carries (to-carry x) (and-then ! (load ! (from ! (stop !)) (look ! 32 refl)) (and-then ! (load ! (from ! (stop !)) (look ! 15 refl)) (no-more !))) (λ v.
+            use1 W (later (some (λ (m : Answer). ((‵ (flft κ q) ⊛ ‵ ftrue) ⊛ ‵ (Answer-row.the-row .own m (v ∷ []))) ⊛ raw (ensured 𝓤 H A carries.ended (carries.clauses 𝓤 H A at-mem run) (κ, tt) (args-carry x) tt m)))) (id⊢ 𝓤 _) $ await ! tt $ pick ! (λ m.
+            split ! $ move ! (1 ∷ []) $ use1 W (some (λ (ws : Lasts carries.ended (κ, tt) (args-carry x)). ‵ (lasts carries.ended (κ, tt) (args-carry x) ws) ⊛ raw (fact 𝓤 ((ws .0 ≡ changed h x .next) × (m ≡ x .answer))))) (id⊢ 𝓤 _) $ pick ! (λ ws.
+            split ! $ move ! (1 ∷ []) $ heard ! ((ws .0 ≡ changed h x .next) × (m ≡ x .answer)) (λ d. fsplit ! $
+            move ! (2 ∷ []) $ split ! $ move ! (1 ∷ []) $ peeks ! Answer-row.the-row (Is Answer-row.the-row) (shows 𝓤 H A Answer-row.the-row) m (v ∷ []) (λ is. drop ! $ split ! $
+            land-last ! (from ! (stop !)) (init ! 26 refl (EL.lawful Answer-row.the-type Answer-row′.the-laws 𝓤 H A W tt .typed m _ is .0)) $ rewrite ! 26 (λ (u : Val). ‵ (fat fullShare Answer-row′.mir l20 0 u)) (ap only (EL.tells Answer-row.the-type Answer-row′.the-laws m _ is)) refl $
+            exec ! C Λ En pieces.t-2 (atRet En (Post call)) $ forget ! 18 refl $ forget ! 34 refl $ forget ! 35 refl $
+            keep ! (2 ∷ 0 ∷ 4 ∷ 5 ∷ 6 ∷ 7 ∷ 8 ∷ 9 ∷ 10 ∷ 11 ∷ 12 ∷ 13 ∷ 14 ∷ 15 ∷ 16 ∷ 17 ∷ 18 ∷ 19 ∷ 20 ∷ 21 ∷ 22 ∷ 23 ∷ 24 ∷ 25 ∷ 26 ∷ 27 ∷ 28 ∷ 29 ∷ 30 ∷ 31 ∷ 32 ∷ 33 ∷ 34 ∷ 35 ∷ 36 ∷ 37 ∷ 38 ∷ 39 ∷ 40 ∷ 41 ∷ 42 ∷ 43 ∷ 44 ∷ 45 ∷ 46 ∷ 47 ∷ 48 ∷ 49 ∷ 50 ∷ 51 ∷ 52 ∷ 53 ∷ 54 ∷ 55 ∷ 56 ∷ 57 ∷ 58 ∷ 59 ∷ 60 ∷ 61 ∷ 62 ∷ 63 ∷ 64 ∷ 65 ∷ 66 ∷ 67 ∷ 68 ∷ 69 ∷ 70 ∷ 71 ∷ 72 ∷ 73 ∷ 74 ∷ 75 ∷ 76 ∷ 77 ∷ 78 ∷ 79 ∷ 80 ∷ 81 ∷ 82 ∷ 83 ∷ 84 ∷ 85 ∷ []) $ answered (ws .0) m zs (d .0 ∙ ap (λ (u : Done). u .next) e, d .1 ∙ ap (λ (u : Done). u .answer) e, z) (answer-is m _ is) l)))))
+
+        -- SyncDue
+        on-due : {y2 : Val} → syncDue ≡ stepFor call (bytesIn f) room → room ≡ roomFor h call room → Sq W (‵ Rec ∷ ‵ (flft κ q) ∷ ‵ Room′ ∷ ‵ (flft κ-room q-room) ∷ ‵ (froom Answer-row′.mir l0 0) ∷ ‵ (fat fullShare (tyRef (named 0) mut rec-ty) l1 0 (vptr b o)) ∷ ‵ (fat fullShare Call-row′.mir l2 0 y2) ∷ ‵ (fat fullShare Frame-row′.mir l3 0 (LL.val Frame-row.the-type Frame-row′.the-laws f)) ∷ ‵ (fat fullShare (sliceTy (tyRef (named 1) mut (tyInt w8))) l4 0 s-room) ∷ ‵ (froom out-ty l5 0) ∷ ‵ (froom (tyInt w8) l6 0) ∷ ‵ (froom (tyInt w8) l7 0) ∷ ‵ (froom (tyInt w8) l8 0) ∷ ‵ (froom out-ty l9 0) ∷ ‵ (froom Sync-row′.mir l10 0) ∷ ‵ (froom out-ty l11 0) ∷ ‵ (froom out-ty l12 0) ∷ ‵ (froom (tyInt w8) l13 0) ∷ ‵ (froom out-ty l14 0) ∷ ‵ (froom tyBool l15 0) ∷ ‵ (froom out-ty l16 0) ∷ ‵ (froom Fault-row′.mir l17 0) ∷ ‵ (froom out-ty l18 0) ∷ ‵ (froom out-ty l19 0) ∷ ‵ (froom Answer-row′.mir l20 0) ∷ ‵ (froom T′.mir l21 0) ∷ ‵ (froom (tyRef erased mut rec-ty) l22 0) ∷ ‵ (froom T′.mir l23 0) ∷ ‵ (froom T′.mir l24 0) ∷ ‵ (froom (tyRef erased mut rec-ty) l25 0) ∷ ‵ (froom T′.mir l26 0) ∷ ‵ (froom (tyRef erased mut rec-ty) l27 0) ∷ ‵ (froom T′.mir l28 0) ∷ ‵ (froom (tyRef erased mut rec-ty) l29 0) ∷ ‵ (froom T′.mir l30 0) ∷ ‵ (froom (tyRef erased mut (tyInt w8)) l31 0) ∷ ‵ (froom (sliceTy (tyRef erased mut (tyInt w8))) l32 0) ∷ ‵ (froom (tyRef erased mut rec-ty) l33 0) ∷ ‵ (froom T′.mir l34 0) ∷ ‵ (froom (tyRef erased mut rec-ty) l35 0) ∷ ‵ (froom T′.mir l36 0) ∷ ‵ (froom (tyRef erased mut rec-ty) l37 0) ∷ ‵ (froom T′.mir l38 0) ∷ ‵ (froom (tyRef erased mut rec-ty) l39 0) ∷ Dies) (runs C Λ En code-due (anyQ (Next call)))
+        on-due s z =
             fsplit3 ! $ drop ! $
             opens ! tt T.the-row {h = h} b o (λ vs. spelt ! T.the-row (Is T.the-row) (shows 𝓤 H A T.the-row) (LL.vals T.the-type T′.the-laws) (LL.tells T.the-type T′.the-laws) fullShare h vs b o $
             move ! (1 ∷ []) $ peeks ! T.the-row (Is T.the-row) (shows 𝓤 H A T.the-row) h (mach h ∷ []) (λ was.
-            assigns ! (of-opd ! (load ! (from ! (hop ! (look ! 8 refl) (stop !))) (look-raw ! 1 refl))) (from ! (stop !)) (init ! 25 refl (LL.lawful T.the-type T′.the-laws 𝓤 H A W .typed h _ was .0)) $
+            assigns ! (of-opd ! (load ! (from ! (hop ! (look ! 8 refl) (stop !))) (look-raw ! 1 refl))) (from ! (stop !)) (init ! 35 refl (LL.lawful T.the-type T′.the-laws 𝓤 H A W .typed h _ was .0)) $
             move ! (1 ∷ 0 ∷ 2 ∷ 3 ∷ 4 ∷ []) $ closes ! tt T.the-row h (mach h ∷ []) b o $
-            assigns ! (addr ! (from ! (fld ! refl (hop ! (look-in ! 9 (sub ! 0 refl (whole !))) (stop !))))) (from ! (stop !)) (init ! 24 refl (tt, tt)) $
-            assigns ! (agg ! (and-then ! (load ! (from ! (stop !)) (look ! 24 refl)) (and-then ! (load ! (from ! (fld ! refl (stop !))) (look-in ! 9 (sub ! 1 refl (whole !)))) (no-more !)))) (from ! (stop !)) (init ! 25 refl (tt, (tt, (record { fits = room-room .0 }, tt)))) $
-            move ! (4 ∷ 3 ∷ []) $ group ! 2 $ use1 W (raw ((Planned 𝓤 H A at-mem run) .pre (to-planned call))) (asked-planned call call-is was) $
-            calls-at ! fm (Planned 𝓤 H A at-mem run) known-planned (to-planned call) (and-then ! (load ! (from ! (stop !)) (look ! 22 refl)) (and-then ! (load ! (from ! (stop !)) (look ! 6 refl)) (and-then ! (load ! (from ! (stop !)) (look ! 24 refl)) (no-more !)))) (λ v.
-            use1 W (later (some (λ (x : Change). ((‵ (flft κ-room q-room) ⊛ ‵ ftrue) ⊛ ‵ (S.the-row .own x (v ∷ []))) ⊛ raw (ensured 𝓤 H A planned.ended (planned.clauses 𝓤 H A at-mem run) (κ-room, tt) (args-planned call) tt x)))) (id⊢ 𝓤 _) $ await ! tt $ pick ! (λ x.
-            split ! $ move ! (1 ∷ []) $ use1 W (some (λ (ws : Lasts planned.ended (κ-room, tt) (args-planned call)). ‵ (lasts planned.ended (κ-room, tt) (args-planned call) ws) ⊛ raw (fact 𝓤 (changed h x ≡ doneOf (stepOf h (restFor call room)))) ⊛ raw (fact 𝓤 ((ws .1 .1 .0) ≡ roomFor h call room)))) (id⊢ 𝓤 _) $ pick ! (λ ws.
-            split ! $ move ! (1 ∷ []) $ split ! $ heard ! (changed h x ≡ doneOf (stepOf h (restFor call room))) (λ e. heard ! ((ws .1 .1 .0) ≡ roomFor h call room) (λ z. fsplit ! $ drop ! $ fsplit ! $ drop ! $ fsplit ! $ fsplit ! $ move ! (1 ∷ []) $ feqL ! (λ l.
+            move ! (3 ∷ []) $ fsplit ! $ move ! (1 ∷ []) $ fsplit ! $
+            use1 W (‵ (fres γ-room (codedHoleys u8 .code (heres u8 room)))) (W .names .obs-res γ-room (codedHoleys u8 .code (heres u8 room))) $ use1 W (‵ (finally u8 γ-room room)) (res-finally 𝓤 H A W (named 1) κ-room u8 γ-room room) $
+            use0 W (raw ((Dues 𝓤 H A at-mem run) .pre to-due)) (asked-due was) $
+            calls-at ! fm (Dues 𝓤 H A at-mem run) known-dues to-due (and-then ! (load ! (from ! (stop !)) (look ! 36 refl)) (no-more !)) (λ v.
+            use1 W (later (some (λ (x : Change). (‵ ftrue ⊛ ‵ (S.the-row .own x (v ∷ []))) ⊛ raw (ensured 𝓤 H A dues.ended (dues.clauses 𝓤 H A at-mem run) tt args-due tt x)))) (id⊢ 𝓤 _) $ await ! tt $ pick ! (λ x.
+            split ! $ move ! (1 ∷ []) $ use1 W (some (λ (ws : Lasts dues.ended tt args-due). ‵ (lasts dues.ended tt args-due ws) ⊛ raw (fact 𝓤 (changed h x ≡ doneOf (stepOf h (syncDue)))))) (id⊢ 𝓤 _) $ pick ! (λ ws.
+            split ! $ move ! (1 ∷ []) $ heard ! (changed h x ≡ doneOf (stepOf h (syncDue))) (λ e. drop ! $ split ! $ drop ! $
+            peeks ! S.the-row (Is S.the-row) (shows 𝓤 H A S.the-row) x (v ∷ []) (λ is. drop ! $
+            land ! (from ! (stop !)) (init ! 19 refl (LL.lawful S.the-type S′.the-laws 𝓤 H A W .typed x _ is .0)) $ rewrite ! 19 (λ (u : Val). ‵ (fat fullShare out-ty l12 0 u)) (ap only (LL.tells S.the-type S′.the-laws x _ is)) refl $
+            keep ! (3 ∷ 4 ∷ 5 ∷ 6 ∷ 0 ∷ 7 ∷ 8 ∷ 9 ∷ 10 ∷ 11 ∷ 12 ∷ 13 ∷ 14 ∷ 15 ∷ 16 ∷ 17 ∷ 18 ∷ 19 ∷ 20 ∷ 21 ∷ 22 ∷ 23 ∷ 24 ∷ 25 ∷ 26 ∷ 27 ∷ 28 ∷ 29 ∷ 30 ∷ 31 ∷ 32 ∷ 33 ∷ 34 ∷ 35 ∷ 36 ∷ 37 ∷ 38 ∷ 39 ∷ 40 ∷ 41 ∷ 42 ∷ 43 ∷ 44 ∷ 45 ∷ 46 ∷ 47 ∷ 48 ∷ 49 ∷ 50 ∷ 51 ∷ 52 ∷ 53 ∷ 54 ∷ 55 ∷ 56 ∷ 57 ∷ 58 ∷ 59 ∷ 60 ∷ 61 ∷ 62 ∷ 63 ∷ 64 ∷ 65 ∷ 66 ∷ 67 ∷ 68 ∷ 69 ∷ 70 ∷ 71 ∷ 72 ∷ 73 ∷ 74 ∷ 75 ∷ 76 ∷ 77 ∷ 78 ∷ 79 ∷ 80 ∷ 81 ∷ 82 ∷ 83 ∷ 84 ∷ 85 ∷ 86 ∷ []) $ carried-due x (change-is x _ is) (e ∙ ap (λ (s : Step). doneOf (stepOf h s)) s) room z refl)))))))
+
+        -- what `Slot` changes is carried out
+        carried-slot : {y2 y13 y30 y31 y32 : Val} (x : Change) → Is S.the-row x (LL.val S.the-type S′.the-laws x ∷ []) → changed h x ≡ doneOf (stepOf h (stepFor call (bytesIn f) room)) → (zs : List ℕ) → zs ≡ roomFor h call room → length zs ≡ length room → Sq W (‵ (fobs γ (T.the-row .coded .code h)) ∷ ‵ (fbor κ (Body (mem T.the-row) b o γ)) ∷ ‵ (flft κ q) ∷ ‵ (flft κ-room q-room) ∷ ‵ (finally u8 γ-room zs) ∷ ‵ (froom Answer-row′.mir l0 0) ∷ ‵ (fat fullShare (tyRef (named 0) mut rec-ty) l1 0 (vptr b o)) ∷ ‵ (fat fullShare Call-row′.mir l2 0 y2) ∷ ‵ (fat fullShare Frame-row′.mir l3 0 (LL.val Frame-row.the-type Frame-row′.the-laws f)) ∷ ‵ (fat fullShare (sliceTy (tyRef (named 1) mut (tyInt w8))) l4 0 s-room) ∷ ‵ (froom out-ty l5 0) ∷ ‵ (froom (tyInt w8) l6 0) ∷ ‵ (froom (tyInt w8) l7 0) ∷ ‵ (froom (tyInt w8) l8 0) ∷ ‵ (froom out-ty l9 0) ∷ ‵ (froom Sync-row′.mir l10 0) ∷ ‵ (froom out-ty l11 0) ∷ ‵ (froom out-ty l12 0) ∷ ‵ (fat fullShare (tyInt w8) l13 0 y13) ∷ ‵ (fat fullShare out-ty l14 0 (LL.val S.the-type S′.the-laws x)) ∷ ‵ (froom tyBool l15 0) ∷ ‵ (froom out-ty l16 0) ∷ ‵ (froom Fault-row′.mir l17 0) ∷ ‵ (froom out-ty l18 0) ∷ ‵ (froom out-ty l19 0) ∷ ‵ (froom Answer-row′.mir l20 0) ∷ ‵ (froom T′.mir l21 0) ∷ ‵ (froom (tyRef erased mut rec-ty) l22 0) ∷ ‵ (froom T′.mir l23 0) ∷ ‵ (froom T′.mir l24 0) ∷ ‵ (froom (tyRef erased mut rec-ty) l25 0) ∷ ‵ (froom T′.mir l26 0) ∷ ‵ (froom (tyRef erased mut rec-ty) l27 0) ∷ ‵ (froom T′.mir l28 0) ∷ ‵ (froom (tyRef erased mut rec-ty) l29 0) ∷ ‵ (fat fullShare T′.mir l30 0 y30) ∷ ‵ (fat fullShare (tyRef erased mut (tyInt w8)) l31 0 y31) ∷ ‵ (fat fullShare (sliceTy (tyRef erased mut (tyInt w8))) l32 0 y32) ∷ ‵ (froom (tyRef erased mut rec-ty) l33 0) ∷ ‵ (froom T′.mir l34 0) ∷ ‵ (froom (tyRef erased mut rec-ty) l35 0) ∷ ‵ (froom T′.mir l36 0) ∷ ‵ (froom (tyRef erased mut rec-ty) l37 0) ∷ ‵ (froom T′.mir l38 0) ∷ ‵ (froom (tyRef erased mut rec-ty) l39 0) ∷ Dies) (runs C Λ En (carrying 33 14) (anyQ (Next call)))
+        carried-slot x x-is e zs z l =
+            assigns ! (addr ! (from ! (hop ! (look ! 6 refl) (stop !)))) (from ! (stop !)) (init ! 38 refl (tt, tt)) $
+            group ! 3 $ use1 W (raw ((Carries 𝓤 H A at-mem run) .pre (to-carry x))) (asked-carry x x-is) $
+            calls-at-last ! fm (Carries 𝓤 H A at-mem run) known-carries (to-carry x) (and-then ! (load ! (from ! (stop !)) (look ! 36 refl)) (and-then ! (load ! (from ! (stop !)) (look ! 17 refl)) (no-more !))) (λ v.
+            use1 W (later (some (λ (m : Answer). ((‵ (flft κ q) ⊛ ‵ ftrue) ⊛ ‵ (Answer-row.the-row .own m (v ∷ []))) ⊛ raw (ensured 𝓤 H A carries.ended (carries.clauses 𝓤 H A at-mem run) (κ, tt) (args-carry x) tt m)))) (id⊢ 𝓤 _) $ await ! tt $ pick ! (λ m.
+            split ! $ move ! (1 ∷ []) $ use1 W (some (λ (ws : Lasts carries.ended (κ, tt) (args-carry x)). ‵ (lasts carries.ended (κ, tt) (args-carry x) ws) ⊛ raw (fact 𝓤 ((ws .0 ≡ changed h x .next) × (m ≡ x .answer))))) (id⊢ 𝓤 _) $ pick ! (λ ws.
+            split ! $ move ! (1 ∷ []) $ heard ! ((ws .0 ≡ changed h x .next) × (m ≡ x .answer)) (λ d. fsplit ! $
+            move ! (2 ∷ []) $ split ! $ move ! (1 ∷ []) $ peeks ! Answer-row.the-row (Is Answer-row.the-row) (shows 𝓤 H A Answer-row.the-row) m (v ∷ []) (λ is. drop ! $ split ! $
+            land-last ! (from ! (stop !)) (init ! 26 refl (EL.lawful Answer-row.the-type Answer-row′.the-laws 𝓤 H A W tt .typed m _ is .0)) $ rewrite ! 26 (λ (u : Val). ‵ (fat fullShare Answer-row′.mir l20 0 u)) (ap only (EL.tells Answer-row.the-type Answer-row′.the-laws m _ is)) refl $
+            exec ! C Λ En pieces.t-2 (atRet En (Post call)) $ forget ! 19 refl $ forget ! 20 refl $ forget ! 36 refl $ forget ! 37 refl $ forget ! 38 refl $ forget ! 39 refl $
+            keep ! (2 ∷ 0 ∷ 4 ∷ 5 ∷ 6 ∷ 7 ∷ 8 ∷ 9 ∷ 10 ∷ 11 ∷ 12 ∷ 13 ∷ 14 ∷ 15 ∷ 16 ∷ 17 ∷ 18 ∷ 19 ∷ 20 ∷ 21 ∷ 22 ∷ 23 ∷ 24 ∷ 25 ∷ 26 ∷ 27 ∷ 28 ∷ 29 ∷ 30 ∷ 31 ∷ 32 ∷ 33 ∷ 34 ∷ 35 ∷ 36 ∷ 37 ∷ 38 ∷ 39 ∷ 40 ∷ 41 ∷ 42 ∷ 43 ∷ 44 ∷ 45 ∷ 46 ∷ 47 ∷ 48 ∷ 49 ∷ 50 ∷ 51 ∷ 52 ∷ 53 ∷ 54 ∷ 55 ∷ 56 ∷ 57 ∷ 58 ∷ 59 ∷ 60 ∷ 61 ∷ 62 ∷ 63 ∷ 64 ∷ 65 ∷ 66 ∷ 67 ∷ 68 ∷ 69 ∷ 70 ∷ 71 ∷ 72 ∷ 73 ∷ 74 ∷ 75 ∷ 76 ∷ 77 ∷ 78 ∷ 79 ∷ 80 ∷ 81 ∷ 82 ∷ 83 ∷ 84 ∷ 85 ∷ []) $ answered (ws .0) m zs (d .0 ∙ ap (λ (u : Done). u .next) e, d .1 ∙ ap (λ (u : Done). u .answer) e, z) (answer-is m _ is) l)))))
+
+        -- Slot
+        on-slot : {y2 : Val} (n : ℕ) → n < 2 ^ 8 → slot n room ≡ stepFor call (bytesIn f) room → stepOf h (slot n room) .room ≡ roomFor h call room → Sq W (‵ Rec ∷ ‵ (flft κ q) ∷ ‵ Room′ ∷ ‵ (flft κ-room q-room) ∷ ‵ (froom Answer-row′.mir l0 0) ∷ ‵ (fat fullShare (tyRef (named 0) mut rec-ty) l1 0 (vptr b o)) ∷ ‵ (fat fullShare Call-row′.mir l2 0 y2) ∷ ‵ (fat fullShare Frame-row′.mir l3 0 (LL.val Frame-row.the-type Frame-row′.the-laws f)) ∷ ‵ (fat fullShare (sliceTy (tyRef (named 1) mut (tyInt w8))) l4 0 s-room) ∷ ‵ (froom out-ty l5 0) ∷ ‵ (froom (tyInt w8) l6 0) ∷ ‵ (froom (tyInt w8) l7 0) ∷ ‵ (froom (tyInt w8) l8 0) ∷ ‵ (froom out-ty l9 0) ∷ ‵ (froom Sync-row′.mir l10 0) ∷ ‵ (froom out-ty l11 0) ∷ ‵ (froom out-ty l12 0) ∷ ‵ (fat fullShare (tyInt w8) l13 0 (vint w8 n)) ∷ ‵ (froom out-ty l14 0) ∷ ‵ (froom tyBool l15 0) ∷ ‵ (froom out-ty l16 0) ∷ ‵ (froom Fault-row′.mir l17 0) ∷ ‵ (froom out-ty l18 0) ∷ ‵ (froom out-ty l19 0) ∷ ‵ (froom Answer-row′.mir l20 0) ∷ ‵ (froom T′.mir l21 0) ∷ ‵ (froom (tyRef erased mut rec-ty) l22 0) ∷ ‵ (froom T′.mir l23 0) ∷ ‵ (froom T′.mir l24 0) ∷ ‵ (froom (tyRef erased mut rec-ty) l25 0) ∷ ‵ (froom T′.mir l26 0) ∷ ‵ (froom (tyRef erased mut rec-ty) l27 0) ∷ ‵ (froom T′.mir l28 0) ∷ ‵ (froom (tyRef erased mut rec-ty) l29 0) ∷ ‵ (froom T′.mir l30 0) ∷ ‵ (froom (tyRef erased mut (tyInt w8)) l31 0) ∷ ‵ (froom (sliceTy (tyRef erased mut (tyInt w8))) l32 0) ∷ ‵ (froom (tyRef erased mut rec-ty) l33 0) ∷ ‵ (froom T′.mir l34 0) ∷ ‵ (froom (tyRef erased mut rec-ty) l35 0) ∷ ‵ (froom T′.mir l36 0) ∷ ‵ (froom (tyRef erased mut rec-ty) l37 0) ∷ ‵ (froom T′.mir l38 0) ∷ ‵ (froom (tyRef erased mut rec-ty) l39 0) ∷ Dies) (runs C Λ En code-slot (anyQ (Next call)))
+        on-slot n n-fits s z =
+            fsplit3 ! $ drop ! $
+            opens ! tt T.the-row {h = h} b o (λ vs. spelt ! T.the-row (Is T.the-row) (shows 𝓤 H A T.the-row) (LL.vals T.the-type T′.the-laws) (LL.tells T.the-type T′.the-laws) fullShare h vs b o $
+            move ! (1 ∷ []) $ peeks ! T.the-row (Is T.the-row) (shows 𝓤 H A T.the-row) h (mach h ∷ []) (λ was.
+            assigns ! (of-opd ! (load ! (from ! (hop ! (look ! 8 refl) (stop !))) (look-raw ! 1 refl))) (from ! (stop !)) (init ! 37 refl (LL.lawful T.the-type T′.the-laws 𝓤 H A W .typed h _ was .0)) $
+            move ! (1 ∷ 0 ∷ 2 ∷ 3 ∷ 4 ∷ []) $ closes ! tt T.the-row h (mach h ∷ []) b o $
+            assigns ! (addr ! (from ! (fld ! refl (hop ! (look-in ! 9 (sub ! 0 refl (whole !))) (stop !))))) (from ! (stop !)) (init ! 36 refl (tt, tt)) $
+            assigns ! (agg ! (and-then ! (load ! (from ! (stop !)) (look ! 36 refl)) (and-then ! (load ! (from ! (fld ! refl (stop !))) (look-in ! 9 (sub ! 1 refl (whole !)))) (no-more !)))) (from ! (stop !)) (init ! 37 refl (tt, (tt, (record { fits = room-room .0 }, tt)))) $
+            move ! (4 ∷ 3 ∷ []) $ group ! 2 $ use1 W (raw ((Slots 𝓤 H A at-mem run) .pre (to-slot n))) (asked-slot n n-fits was) $
+            calls-at ! fm (Slots 𝓤 H A at-mem run) known-slots (to-slot n) (and-then ! (load ! (from ! (stop !)) (look ! 34 refl)) (and-then ! (load ! (from ! (stop !)) (look ! 17 refl)) (and-then ! (load ! (from ! (stop !)) (look ! 36 refl)) (no-more !)))) (λ v.
+            use1 W (later (some (λ (x : Change). ((‵ (flft κ-room q-room) ⊛ ‵ ftrue) ⊛ ‵ (S.the-row .own x (v ∷ []))) ⊛ raw (ensured 𝓤 H A slots.ended (slots.clauses 𝓤 H A at-mem run) (κ-room, tt) (args-slot n) tt x)))) (id⊢ 𝓤 _) $ await ! tt $ pick ! (λ x.
+            split ! $ move ! (1 ∷ []) $ use1 W (some (λ (ws : Lasts slots.ended (κ-room, tt) (args-slot n)). ‵ (lasts slots.ended (κ-room, tt) (args-slot n) ws) ⊛ raw (fact 𝓤 (changed h x ≡ doneOf (stepOf h (slot n room)))) ⊛ raw (fact 𝓤 ((ws .1 .1 .0) ≡ stepOf h (slot n room) .room)))) (id⊢ 𝓤 _) $ pick ! (λ ws.
+            split ! $ move ! (1 ∷ []) $ split ! $ heard ! (changed h x ≡ doneOf (stepOf h (slot n room))) (λ e. heard ! ((ws .1 .1 .0) ≡ stepOf h (slot n room) .room) (λ z₁. fsplit ! $ drop ! $ fsplit ! $ drop ! $ fsplit ! $ fsplit ! $ move ! (1 ∷ []) $ feqL ! (λ l.
             move ! (2 ∷ []) $ split ! $ move ! (1 ∷ []) $ peeks ! S.the-row (Is S.the-row) (shows 𝓤 H A S.the-row) x (v ∷ []) (λ is. drop ! $ split ! $
-            land ! (from ! (stop !)) (init ! 18 refl (LL.lawful S.the-type S′.the-laws 𝓤 H A W .typed x _ is .0)) $ rewrite ! 18 (λ (u : Val). ‵ (fat fullShare out-ty l11 0 u)) (ap only (LL.tells S.the-type S′.the-laws x _ is)) refl $
-            keep ! (4 ∷ 5 ∷ 6 ∷ 0 ∷ 2 ∷ 7 ∷ 8 ∷ 9 ∷ 10 ∷ 11 ∷ 12 ∷ 13 ∷ 14 ∷ 15 ∷ 16 ∷ 17 ∷ 18 ∷ 19 ∷ 20 ∷ 21 ∷ 22 ∷ 23 ∷ 24 ∷ 25 ∷ 26 ∷ 27 ∷ 28 ∷ 29 ∷ 30 ∷ 31 ∷ 32 ∷ 33 ∷ 34 ∷ 35 ∷ 36 ∷ 37 ∷ 38 ∷ 39 ∷ 40 ∷ 41 ∷ 42 ∷ 43 ∷ 44 ∷ 45 ∷ 46 ∷ 47 ∷ 48 ∷ 49 ∷ 50 ∷ []) $ carried-11 x (change-is x _ is) (e ∙ ap (λ (s : Step). doneOf (stepOf h s)) s) (ws .1 .1 .0) z l)))))))))
+            land ! (from ! (stop !)) (init ! 21 refl (LL.lawful S.the-type S′.the-laws 𝓤 H A W .typed x _ is .0)) $ rewrite ! 21 (λ (u : Val). ‵ (fat fullShare out-ty l14 0 u)) (ap only (LL.tells S.the-type S′.the-laws x _ is)) refl $
+            keep ! (4 ∷ 5 ∷ 6 ∷ 0 ∷ 2 ∷ 7 ∷ 8 ∷ 9 ∷ 10 ∷ 11 ∷ 12 ∷ 13 ∷ 14 ∷ 15 ∷ 16 ∷ 17 ∷ 18 ∷ 19 ∷ 20 ∷ 21 ∷ 22 ∷ 23 ∷ 24 ∷ 25 ∷ 26 ∷ 27 ∷ 28 ∷ 29 ∷ 30 ∷ 31 ∷ 32 ∷ 33 ∷ 34 ∷ 35 ∷ 36 ∷ 37 ∷ 38 ∷ 39 ∷ 40 ∷ 41 ∷ 42 ∷ 43 ∷ 44 ∷ 45 ∷ 46 ∷ 47 ∷ 48 ∷ 49 ∷ 50 ∷ 51 ∷ 52 ∷ 53 ∷ 54 ∷ 55 ∷ 56 ∷ 57 ∷ 58 ∷ 59 ∷ 60 ∷ 61 ∷ 62 ∷ 63 ∷ 64 ∷ 65 ∷ 66 ∷ 67 ∷ 68 ∷ 69 ∷ 70 ∷ 71 ∷ 72 ∷ 73 ∷ 74 ∷ 75 ∷ 76 ∷ 77 ∷ 78 ∷ 79 ∷ 80 ∷ 81 ∷ 82 ∷ 83 ∷ 84 ∷ 85 ∷ 86 ∷ []) $ carried-slot x (change-is x _ is) (e ∙ ap (λ (s : Step). doneOf (stepOf h s)) s) (ws .1 .1 .0) (z₁ ∙ z) l)))))))))
+
+        -- what `Frame` changes is carried out
+        carried-framed : {y2 y15 y34 : Val} (x : Change) → Is S.the-row x (LL.val S.the-type S′.the-laws x ∷ []) → changed h x ≡ doneOf (stepOf h (stepFor call (bytesIn f) room)) → (zs : List ℕ) → zs ≡ roomFor h call room → length zs ≡ length room → Sq W (‵ (fobs γ (T.the-row .coded .code h)) ∷ ‵ (fbor κ (Body (mem T.the-row) b o γ)) ∷ ‵ (flft κ q) ∷ ‵ (flft κ-room q-room) ∷ ‵ (finally u8 γ-room zs) ∷ ‵ (froom Answer-row′.mir l0 0) ∷ ‵ (fat fullShare (tyRef (named 0) mut rec-ty) l1 0 (vptr b o)) ∷ ‵ (fat fullShare Call-row′.mir l2 0 y2) ∷ ‵ (fat fullShare Frame-row′.mir l3 0 (LL.val Frame-row.the-type Frame-row′.the-laws f)) ∷ ‵ (fat fullShare (sliceTy (tyRef (named 1) mut (tyInt w8))) l4 0 s-room) ∷ ‵ (froom out-ty l5 0) ∷ ‵ (froom (tyInt w8) l6 0) ∷ ‵ (froom (tyInt w8) l7 0) ∷ ‵ (froom (tyInt w8) l8 0) ∷ ‵ (froom out-ty l9 0) ∷ ‵ (froom Sync-row′.mir l10 0) ∷ ‵ (froom out-ty l11 0) ∷ ‵ (froom out-ty l12 0) ∷ ‵ (froom (tyInt w8) l13 0) ∷ ‵ (froom out-ty l14 0) ∷ ‵ (fat fullShare tyBool l15 0 y15) ∷ ‵ (fat fullShare out-ty l16 0 (LL.val S.the-type S′.the-laws x)) ∷ ‵ (froom Fault-row′.mir l17 0) ∷ ‵ (froom out-ty l18 0) ∷ ‵ (froom out-ty l19 0) ∷ ‵ (froom Answer-row′.mir l20 0) ∷ ‵ (froom T′.mir l21 0) ∷ ‵ (froom (tyRef erased mut rec-ty) l22 0) ∷ ‵ (froom T′.mir l23 0) ∷ ‵ (froom T′.mir l24 0) ∷ ‵ (froom (tyRef erased mut rec-ty) l25 0) ∷ ‵ (froom T′.mir l26 0) ∷ ‵ (froom (tyRef erased mut rec-ty) l27 0) ∷ ‵ (froom T′.mir l28 0) ∷ ‵ (froom (tyRef erased mut rec-ty) l29 0) ∷ ‵ (froom T′.mir l30 0) ∷ ‵ (froom (tyRef erased mut (tyInt w8)) l31 0) ∷ ‵ (froom (sliceTy (tyRef erased mut (tyInt w8))) l32 0) ∷ ‵ (froom (tyRef erased mut rec-ty) l33 0) ∷ ‵ (fat fullShare T′.mir l34 0 y34) ∷ ‵ (froom (tyRef erased mut rec-ty) l35 0) ∷ ‵ (froom T′.mir l36 0) ∷ ‵ (froom (tyRef erased mut rec-ty) l37 0) ∷ ‵ (froom T′.mir l38 0) ∷ ‵ (froom (tyRef erased mut rec-ty) l39 0) ∷ Dies) (runs C Λ En (carrying 35 16) (anyQ (Next call)))
+        carried-framed x x-is e zs z l =
+            assigns ! (addr ! (from ! (hop ! (look ! 6 refl) (stop !)))) (from ! (stop !)) (init ! 40 refl (tt, tt)) $
+            group ! 3 $ use1 W (raw ((Carries 𝓤 H A at-mem run) .pre (to-carry x))) (asked-carry x x-is) $
+            calls-at-last ! fm (Carries 𝓤 H A at-mem run) known-carries (to-carry x) (and-then ! (load ! (from ! (stop !)) (look ! 38 refl)) (and-then ! (load ! (from ! (stop !)) (look ! 19 refl)) (no-more !))) (λ v.
+            use1 W (later (some (λ (m : Answer). ((‵ (flft κ q) ⊛ ‵ ftrue) ⊛ ‵ (Answer-row.the-row .own m (v ∷ []))) ⊛ raw (ensured 𝓤 H A carries.ended (carries.clauses 𝓤 H A at-mem run) (κ, tt) (args-carry x) tt m)))) (id⊢ 𝓤 _) $ await ! tt $ pick ! (λ m.
+            split ! $ move ! (1 ∷ []) $ use1 W (some (λ (ws : Lasts carries.ended (κ, tt) (args-carry x)). ‵ (lasts carries.ended (κ, tt) (args-carry x) ws) ⊛ raw (fact 𝓤 ((ws .0 ≡ changed h x .next) × (m ≡ x .answer))))) (id⊢ 𝓤 _) $ pick ! (λ ws.
+            split ! $ move ! (1 ∷ []) $ heard ! ((ws .0 ≡ changed h x .next) × (m ≡ x .answer)) (λ d. fsplit ! $
+            move ! (2 ∷ []) $ split ! $ move ! (1 ∷ []) $ peeks ! Answer-row.the-row (Is Answer-row.the-row) (shows 𝓤 H A Answer-row.the-row) m (v ∷ []) (λ is. drop ! $ split ! $
+            land-last ! (from ! (stop !)) (init ! 26 refl (EL.lawful Answer-row.the-type Answer-row′.the-laws 𝓤 H A W tt .typed m _ is .0)) $ rewrite ! 26 (λ (u : Val). ‵ (fat fullShare Answer-row′.mir l20 0 u)) (ap only (EL.tells Answer-row.the-type Answer-row′.the-laws m _ is)) refl $
+            exec ! C Λ En pieces.t-2 (atRet En (Post call)) $ forget ! 21 refl $ forget ! 22 refl $ forget ! 40 refl $ forget ! 41 refl $
+            keep ! (2 ∷ 0 ∷ 4 ∷ 5 ∷ 6 ∷ 7 ∷ 8 ∷ 9 ∷ 10 ∷ 11 ∷ 12 ∷ 13 ∷ 14 ∷ 15 ∷ 16 ∷ 17 ∷ 18 ∷ 19 ∷ 20 ∷ 21 ∷ 22 ∷ 23 ∷ 24 ∷ 25 ∷ 26 ∷ 27 ∷ 28 ∷ 29 ∷ 30 ∷ 31 ∷ 32 ∷ 33 ∷ 34 ∷ 35 ∷ 36 ∷ 37 ∷ 38 ∷ 39 ∷ 40 ∷ 41 ∷ 42 ∷ 43 ∷ 44 ∷ 45 ∷ 46 ∷ 47 ∷ 48 ∷ 49 ∷ 50 ∷ 51 ∷ 52 ∷ 53 ∷ 54 ∷ 55 ∷ 56 ∷ 57 ∷ 58 ∷ 59 ∷ 60 ∷ 61 ∷ 62 ∷ 63 ∷ 64 ∷ 65 ∷ 66 ∷ 67 ∷ 68 ∷ 69 ∷ 70 ∷ 71 ∷ 72 ∷ 73 ∷ 74 ∷ 75 ∷ 76 ∷ 77 ∷ 78 ∷ 79 ∷ 80 ∷ 81 ∷ 82 ∷ 83 ∷ 84 ∷ 85 ∷ []) $ answered (ws .0) m zs (d .0 ∙ ap (λ (u : Done). u .next) e, d .1 ∙ ap (λ (u : Done). u .answer) e, z) (answer-is m _ is) l)))))
+
+        -- Frame
+        on-framed : {y2 : Val} (good : Bool) → frameStep good (bytesIn f) ≡ stepFor call (bytesIn f) room → room ≡ roomFor h call room → Sq W (‵ Rec ∷ ‵ (flft κ q) ∷ ‵ Room′ ∷ ‵ (flft κ-room q-room) ∷ ‵ (froom Answer-row′.mir l0 0) ∷ ‵ (fat fullShare (tyRef (named 0) mut rec-ty) l1 0 (vptr b o)) ∷ ‵ (fat fullShare Call-row′.mir l2 0 y2) ∷ ‵ (fat fullShare Frame-row′.mir l3 0 (LL.val Frame-row.the-type Frame-row′.the-laws f)) ∷ ‵ (fat fullShare (sliceTy (tyRef (named 1) mut (tyInt w8))) l4 0 s-room) ∷ ‵ (froom out-ty l5 0) ∷ ‵ (froom (tyInt w8) l6 0) ∷ ‵ (froom (tyInt w8) l7 0) ∷ ‵ (froom (tyInt w8) l8 0) ∷ ‵ (froom out-ty l9 0) ∷ ‵ (froom Sync-row′.mir l10 0) ∷ ‵ (froom out-ty l11 0) ∷ ‵ (froom out-ty l12 0) ∷ ‵ (froom (tyInt w8) l13 0) ∷ ‵ (froom out-ty l14 0) ∷ ‵ (fat fullShare tyBool l15 0 (vbool good)) ∷ ‵ (froom out-ty l16 0) ∷ ‵ (froom Fault-row′.mir l17 0) ∷ ‵ (froom out-ty l18 0) ∷ ‵ (froom out-ty l19 0) ∷ ‵ (froom Answer-row′.mir l20 0) ∷ ‵ (froom T′.mir l21 0) ∷ ‵ (froom (tyRef erased mut rec-ty) l22 0) ∷ ‵ (froom T′.mir l23 0) ∷ ‵ (froom T′.mir l24 0) ∷ ‵ (froom (tyRef erased mut rec-ty) l25 0) ∷ ‵ (froom T′.mir l26 0) ∷ ‵ (froom (tyRef erased mut rec-ty) l27 0) ∷ ‵ (froom T′.mir l28 0) ∷ ‵ (froom (tyRef erased mut rec-ty) l29 0) ∷ ‵ (froom T′.mir l30 0) ∷ ‵ (froom (tyRef erased mut (tyInt w8)) l31 0) ∷ ‵ (froom (sliceTy (tyRef erased mut (tyInt w8))) l32 0) ∷ ‵ (froom (tyRef erased mut rec-ty) l33 0) ∷ ‵ (froom T′.mir l34 0) ∷ ‵ (froom (tyRef erased mut rec-ty) l35 0) ∷ ‵ (froom T′.mir l36 0) ∷ ‵ (froom (tyRef erased mut rec-ty) l37 0) ∷ ‵ (froom T′.mir l38 0) ∷ ‵ (froom (tyRef erased mut rec-ty) l39 0) ∷ Dies) (runs C Λ En code-framed (anyQ (Next call)))
+        on-framed good s z =
+            fsplit3 ! $ drop ! $
+            opens ! tt T.the-row {h = h} b o (λ vs. spelt ! T.the-row (Is T.the-row) (shows 𝓤 H A T.the-row) (LL.vals T.the-type T′.the-laws) (LL.tells T.the-type T′.the-laws) fullShare h vs b o $
+            move ! (1 ∷ []) $ peeks ! T.the-row (Is T.the-row) (shows 𝓤 H A T.the-row) h (mach h ∷ []) (λ was.
+            assigns ! (of-opd ! (load ! (from ! (hop ! (look ! 8 refl) (stop !))) (look-raw ! 1 refl))) (from ! (stop !)) (init ! 41 refl (LL.lawful T.the-type T′.the-laws 𝓤 H A W .typed h _ was .0)) $
+            move ! (1 ∷ 0 ∷ 2 ∷ 3 ∷ 4 ∷ []) $ closes ! tt T.the-row h (mach h ∷ []) b o $
+            move ! (3 ∷ []) $ fsplit ! $ move ! (1 ∷ []) $ fsplit ! $
+            use1 W (‵ (fres γ-room (codedHoleys u8 .code (heres u8 room)))) (W .names .obs-res γ-room (codedHoleys u8 .code (heres u8 room))) $ use1 W (‵ (finally u8 γ-room room)) (res-finally 𝓤 H A W (named 1) κ-room u8 γ-room room) $
+            use0 W (raw ((Frameds 𝓤 H A at-mem run) .pre (to-framed good))) (asked-framed good was) $
+            calls-at ! fm (Frameds 𝓤 H A at-mem run) known-frameds (to-framed good) (and-then ! (load ! (from ! (stop !)) (look ! 42 refl)) (and-then ! (load ! (from ! (stop !)) (look ! 23 refl)) (and-then ! (load ! (from ! (stop !)) (look ! 11 refl)) (no-more !)))) (λ v.
+            use1 W (later (some (λ (x : Change). (‵ ftrue ⊛ ‵ (S.the-row .own x (v ∷ []))) ⊛ raw (ensured 𝓤 H A frameds.ended (frameds.clauses 𝓤 H A at-mem run) tt (args-framed good) tt x)))) (id⊢ 𝓤 _) $ await ! tt $ pick ! (λ x.
+            split ! $ move ! (1 ∷ []) $ use1 W (some (λ (ws : Lasts frameds.ended tt (args-framed good)). ‵ (lasts frameds.ended tt (args-framed good) ws) ⊛ raw (fact 𝓤 (changed h x ≡ doneOf (stepOf h (frameStep good (bytesIn f))))))) (id⊢ 𝓤 _) $ pick ! (λ ws.
+            split ! $ move ! (1 ∷ []) $ heard ! (changed h x ≡ doneOf (stepOf h (frameStep good (bytesIn f)))) (λ e. drop ! $ split ! $ drop ! $
+            peeks ! S.the-row (Is S.the-row) (shows 𝓤 H A S.the-row) x (v ∷ []) (λ is. drop ! $
+            land ! (from ! (stop !)) (init ! 23 refl (LL.lawful S.the-type S′.the-laws 𝓤 H A W .typed x _ is .0)) $ rewrite ! 23 (λ (u : Val). ‵ (fat fullShare out-ty l16 0 u)) (ap only (LL.tells S.the-type S′.the-laws x _ is)) refl $
+            keep ! (3 ∷ 4 ∷ 5 ∷ 6 ∷ 0 ∷ 7 ∷ 8 ∷ 9 ∷ 10 ∷ 11 ∷ 12 ∷ 13 ∷ 14 ∷ 15 ∷ 16 ∷ 17 ∷ 18 ∷ 19 ∷ 20 ∷ 21 ∷ 22 ∷ 23 ∷ 24 ∷ 25 ∷ 26 ∷ 27 ∷ 28 ∷ 29 ∷ 30 ∷ 31 ∷ 32 ∷ 33 ∷ 34 ∷ 35 ∷ 36 ∷ 37 ∷ 38 ∷ 39 ∷ 40 ∷ 41 ∷ 42 ∷ 43 ∷ 44 ∷ 45 ∷ 46 ∷ 47 ∷ 48 ∷ 49 ∷ 50 ∷ 51 ∷ 52 ∷ 53 ∷ 54 ∷ 55 ∷ 56 ∷ 57 ∷ 58 ∷ 59 ∷ 60 ∷ 61 ∷ 62 ∷ 63 ∷ 64 ∷ 65 ∷ 66 ∷ 67 ∷ 68 ∷ 69 ∷ 70 ∷ 71 ∷ 72 ∷ 73 ∷ 74 ∷ 75 ∷ 76 ∷ 77 ∷ 78 ∷ 79 ∷ 80 ∷ 81 ∷ 82 ∷ 83 ∷ 84 ∷ 85 ∷ 86 ∷ []) $ carried-framed x (change-is x _ is) (e ∙ ap (λ (s : Step). doneOf (stepOf h s)) s) room z refl)))))))
+
+        -- what `Fault` changes is carried out
+        carried-fault : {y2 y17 y36 : Val} (x : Change) → Is S.the-row x (LL.val S.the-type S′.the-laws x ∷ []) → changed h x ≡ doneOf (stepOf h (stepFor call (bytesIn f) room)) → (zs : List ℕ) → zs ≡ roomFor h call room → length zs ≡ length room → Sq W (‵ (fobs γ (T.the-row .coded .code h)) ∷ ‵ (fbor κ (Body (mem T.the-row) b o γ)) ∷ ‵ (flft κ q) ∷ ‵ (flft κ-room q-room) ∷ ‵ (finally u8 γ-room zs) ∷ ‵ (froom Answer-row′.mir l0 0) ∷ ‵ (fat fullShare (tyRef (named 0) mut rec-ty) l1 0 (vptr b o)) ∷ ‵ (fat fullShare Call-row′.mir l2 0 y2) ∷ ‵ (fat fullShare Frame-row′.mir l3 0 (LL.val Frame-row.the-type Frame-row′.the-laws f)) ∷ ‵ (fat fullShare (sliceTy (tyRef (named 1) mut (tyInt w8))) l4 0 s-room) ∷ ‵ (froom out-ty l5 0) ∷ ‵ (froom (tyInt w8) l6 0) ∷ ‵ (froom (tyInt w8) l7 0) ∷ ‵ (froom (tyInt w8) l8 0) ∷ ‵ (froom out-ty l9 0) ∷ ‵ (froom Sync-row′.mir l10 0) ∷ ‵ (froom out-ty l11 0) ∷ ‵ (froom out-ty l12 0) ∷ ‵ (froom (tyInt w8) l13 0) ∷ ‵ (froom out-ty l14 0) ∷ ‵ (froom tyBool l15 0) ∷ ‵ (froom out-ty l16 0) ∷ ‵ (fat fullShare Fault-row′.mir l17 0 y17) ∷ ‵ (fat fullShare out-ty l18 0 (LL.val S.the-type S′.the-laws x)) ∷ ‵ (froom out-ty l19 0) ∷ ‵ (froom Answer-row′.mir l20 0) ∷ ‵ (froom T′.mir l21 0) ∷ ‵ (froom (tyRef erased mut rec-ty) l22 0) ∷ ‵ (froom T′.mir l23 0) ∷ ‵ (froom T′.mir l24 0) ∷ ‵ (froom (tyRef erased mut rec-ty) l25 0) ∷ ‵ (froom T′.mir l26 0) ∷ ‵ (froom (tyRef erased mut rec-ty) l27 0) ∷ ‵ (froom T′.mir l28 0) ∷ ‵ (froom (tyRef erased mut rec-ty) l29 0) ∷ ‵ (froom T′.mir l30 0) ∷ ‵ (froom (tyRef erased mut (tyInt w8)) l31 0) ∷ ‵ (froom (sliceTy (tyRef erased mut (tyInt w8))) l32 0) ∷ ‵ (froom (tyRef erased mut rec-ty) l33 0) ∷ ‵ (froom T′.mir l34 0) ∷ ‵ (froom (tyRef erased mut rec-ty) l35 0) ∷ ‵ (fat fullShare T′.mir l36 0 y36) ∷ ‵ (froom (tyRef erased mut rec-ty) l37 0) ∷ ‵ (froom T′.mir l38 0) ∷ ‵ (froom (tyRef erased mut rec-ty) l39 0) ∷ Dies) (runs C Λ En (carrying 37 18) (anyQ (Next call)))
+        carried-fault x x-is e zs z l =
+            assigns ! (addr ! (from ! (hop ! (look ! 6 refl) (stop !)))) (from ! (stop !)) (init ! 42 refl (tt, tt)) $
+            group ! 3 $ use1 W (raw ((Carries 𝓤 H A at-mem run) .pre (to-carry x))) (asked-carry x x-is) $
+            calls-at-last ! fm (Carries 𝓤 H A at-mem run) known-carries (to-carry x) (and-then ! (load ! (from ! (stop !)) (look ! 40 refl)) (and-then ! (load ! (from ! (stop !)) (look ! 21 refl)) (no-more !))) (λ v.
+            use1 W (later (some (λ (m : Answer). ((‵ (flft κ q) ⊛ ‵ ftrue) ⊛ ‵ (Answer-row.the-row .own m (v ∷ []))) ⊛ raw (ensured 𝓤 H A carries.ended (carries.clauses 𝓤 H A at-mem run) (κ, tt) (args-carry x) tt m)))) (id⊢ 𝓤 _) $ await ! tt $ pick ! (λ m.
+            split ! $ move ! (1 ∷ []) $ use1 W (some (λ (ws : Lasts carries.ended (κ, tt) (args-carry x)). ‵ (lasts carries.ended (κ, tt) (args-carry x) ws) ⊛ raw (fact 𝓤 ((ws .0 ≡ changed h x .next) × (m ≡ x .answer))))) (id⊢ 𝓤 _) $ pick ! (λ ws.
+            split ! $ move ! (1 ∷ []) $ heard ! ((ws .0 ≡ changed h x .next) × (m ≡ x .answer)) (λ d. fsplit ! $
+            move ! (2 ∷ []) $ split ! $ move ! (1 ∷ []) $ peeks ! Answer-row.the-row (Is Answer-row.the-row) (shows 𝓤 H A Answer-row.the-row) m (v ∷ []) (λ is. drop ! $ split ! $
+            land-last ! (from ! (stop !)) (init ! 26 refl (EL.lawful Answer-row.the-type Answer-row′.the-laws 𝓤 H A W tt .typed m _ is .0)) $ rewrite ! 26 (λ (u : Val). ‵ (fat fullShare Answer-row′.mir l20 0 u)) (ap only (EL.tells Answer-row.the-type Answer-row′.the-laws m _ is)) refl $
+            exec ! C Λ En pieces.t-2 (atRet En (Post call)) $ forget ! 23 refl $ forget ! 24 refl $ forget ! 42 refl $ forget ! 43 refl $
+            keep ! (2 ∷ 0 ∷ 4 ∷ 5 ∷ 6 ∷ 7 ∷ 8 ∷ 9 ∷ 10 ∷ 11 ∷ 12 ∷ 13 ∷ 14 ∷ 15 ∷ 16 ∷ 17 ∷ 18 ∷ 19 ∷ 20 ∷ 21 ∷ 22 ∷ 23 ∷ 24 ∷ 25 ∷ 26 ∷ 27 ∷ 28 ∷ 29 ∷ 30 ∷ 31 ∷ 32 ∷ 33 ∷ 34 ∷ 35 ∷ 36 ∷ 37 ∷ 38 ∷ 39 ∷ 40 ∷ 41 ∷ 42 ∷ 43 ∷ 44 ∷ 45 ∷ 46 ∷ 47 ∷ 48 ∷ 49 ∷ 50 ∷ 51 ∷ 52 ∷ 53 ∷ 54 ∷ 55 ∷ 56 ∷ 57 ∷ 58 ∷ 59 ∷ 60 ∷ 61 ∷ 62 ∷ 63 ∷ 64 ∷ 65 ∷ 66 ∷ 67 ∷ 68 ∷ 69 ∷ 70 ∷ 71 ∷ 72 ∷ 73 ∷ 74 ∷ 75 ∷ 76 ∷ 77 ∷ 78 ∷ 79 ∷ 80 ∷ 81 ∷ 82 ∷ 83 ∷ 84 ∷ 85 ∷ []) $ answered (ws .0) m zs (d .0 ∙ ap (λ (u : Done). u .next) e, d .1 ∙ ap (λ (u : Done). u .answer) e, z) (answer-is m _ is) l)))))
+
+        -- Fault
+        on-fault : {y2 : Val} (k : FaultKind) → Is Fault-row.the-row k (EL.val Fault-row.the-type Fault-row′.the-laws k ∷ []) → fault k ≡ stepFor call (bytesIn f) room → room ≡ roomFor h call room → Sq W (‵ Rec ∷ ‵ (flft κ q) ∷ ‵ Room′ ∷ ‵ (flft κ-room q-room) ∷ ‵ (froom Answer-row′.mir l0 0) ∷ ‵ (fat fullShare (tyRef (named 0) mut rec-ty) l1 0 (vptr b o)) ∷ ‵ (fat fullShare Call-row′.mir l2 0 y2) ∷ ‵ (fat fullShare Frame-row′.mir l3 0 (LL.val Frame-row.the-type Frame-row′.the-laws f)) ∷ ‵ (fat fullShare (sliceTy (tyRef (named 1) mut (tyInt w8))) l4 0 s-room) ∷ ‵ (froom out-ty l5 0) ∷ ‵ (froom (tyInt w8) l6 0) ∷ ‵ (froom (tyInt w8) l7 0) ∷ ‵ (froom (tyInt w8) l8 0) ∷ ‵ (froom out-ty l9 0) ∷ ‵ (froom Sync-row′.mir l10 0) ∷ ‵ (froom out-ty l11 0) ∷ ‵ (froom out-ty l12 0) ∷ ‵ (froom (tyInt w8) l13 0) ∷ ‵ (froom out-ty l14 0) ∷ ‵ (froom tyBool l15 0) ∷ ‵ (froom out-ty l16 0) ∷ ‵ (fat fullShare Fault-row′.mir l17 0 (EL.val Fault-row.the-type Fault-row′.the-laws k)) ∷ ‵ (froom out-ty l18 0) ∷ ‵ (froom out-ty l19 0) ∷ ‵ (froom Answer-row′.mir l20 0) ∷ ‵ (froom T′.mir l21 0) ∷ ‵ (froom (tyRef erased mut rec-ty) l22 0) ∷ ‵ (froom T′.mir l23 0) ∷ ‵ (froom T′.mir l24 0) ∷ ‵ (froom (tyRef erased mut rec-ty) l25 0) ∷ ‵ (froom T′.mir l26 0) ∷ ‵ (froom (tyRef erased mut rec-ty) l27 0) ∷ ‵ (froom T′.mir l28 0) ∷ ‵ (froom (tyRef erased mut rec-ty) l29 0) ∷ ‵ (froom T′.mir l30 0) ∷ ‵ (froom (tyRef erased mut (tyInt w8)) l31 0) ∷ ‵ (froom (sliceTy (tyRef erased mut (tyInt w8))) l32 0) ∷ ‵ (froom (tyRef erased mut rec-ty) l33 0) ∷ ‵ (froom T′.mir l34 0) ∷ ‵ (froom (tyRef erased mut rec-ty) l35 0) ∷ ‵ (froom T′.mir l36 0) ∷ ‵ (froom (tyRef erased mut rec-ty) l37 0) ∷ ‵ (froom T′.mir l38 0) ∷ ‵ (froom (tyRef erased mut rec-ty) l39 0) ∷ Dies) (runs C Λ En code-fault (anyQ (Next call)))
+        on-fault k k-is s z =
+            fsplit3 ! $ drop ! $
+            opens ! tt T.the-row {h = h} b o (λ vs. spelt ! T.the-row (Is T.the-row) (shows 𝓤 H A T.the-row) (LL.vals T.the-type T′.the-laws) (LL.tells T.the-type T′.the-laws) fullShare h vs b o $
+            move ! (1 ∷ []) $ peeks ! T.the-row (Is T.the-row) (shows 𝓤 H A T.the-row) h (mach h ∷ []) (λ was.
+            assigns ! (of-opd ! (load ! (from ! (hop ! (look ! 8 refl) (stop !))) (look-raw ! 1 refl))) (from ! (stop !)) (init ! 43 refl (LL.lawful T.the-type T′.the-laws 𝓤 H A W .typed h _ was .0)) $
+            move ! (1 ∷ 0 ∷ 2 ∷ 3 ∷ 4 ∷ []) $ closes ! tt T.the-row h (mach h ∷ []) b o $
+            move ! (3 ∷ []) $ fsplit ! $ move ! (1 ∷ []) $ fsplit ! $
+            use1 W (‵ (fres γ-room (codedHoleys u8 .code (heres u8 room)))) (W .names .obs-res γ-room (codedHoleys u8 .code (heres u8 room))) $ use1 W (‵ (finally u8 γ-room room)) (res-finally 𝓤 H A W (named 1) κ-room u8 γ-room room) $
+            use0 W (raw ((Faults 𝓤 H A at-mem run) .pre (to-fault k))) (asked-fault k k-is was) $
+            calls-at ! fm (Faults 𝓤 H A at-mem run) known-faults (to-fault k) (and-then ! (load ! (from ! (stop !)) (look ! 44 refl)) (and-then ! (load ! (from ! (stop !)) (look ! 25 refl)) (no-more !))) (λ v.
+            use1 W (later (some (λ (x : Change). (‵ ftrue ⊛ ‵ (S.the-row .own x (v ∷ []))) ⊛ raw (ensured 𝓤 H A faults.ended (faults.clauses 𝓤 H A at-mem run) tt (args-fault k) tt x)))) (id⊢ 𝓤 _) $ await ! tt $ pick ! (λ x.
+            split ! $ move ! (1 ∷ []) $ use1 W (some (λ (ws : Lasts faults.ended tt (args-fault k)). ‵ (lasts faults.ended tt (args-fault k) ws) ⊛ raw (fact 𝓤 (changed h x ≡ doneOf (stepOf h (fault k)))))) (id⊢ 𝓤 _) $ pick ! (λ ws.
+            split ! $ move ! (1 ∷ []) $ heard ! (changed h x ≡ doneOf (stepOf h (fault k))) (λ e. drop ! $ split ! $ drop ! $
+            peeks ! S.the-row (Is S.the-row) (shows 𝓤 H A S.the-row) x (v ∷ []) (λ is. drop ! $
+            land ! (from ! (stop !)) (init ! 25 refl (LL.lawful S.the-type S′.the-laws 𝓤 H A W .typed x _ is .0)) $ rewrite ! 25 (λ (u : Val). ‵ (fat fullShare out-ty l18 0 u)) (ap only (LL.tells S.the-type S′.the-laws x _ is)) refl $
+            keep ! (3 ∷ 4 ∷ 5 ∷ 6 ∷ 0 ∷ 7 ∷ 8 ∷ 9 ∷ 10 ∷ 11 ∷ 12 ∷ 13 ∷ 14 ∷ 15 ∷ 16 ∷ 17 ∷ 18 ∷ 19 ∷ 20 ∷ 21 ∷ 22 ∷ 23 ∷ 24 ∷ 25 ∷ 26 ∷ 27 ∷ 28 ∷ 29 ∷ 30 ∷ 31 ∷ 32 ∷ 33 ∷ 34 ∷ 35 ∷ 36 ∷ 37 ∷ 38 ∷ 39 ∷ 40 ∷ 41 ∷ 42 ∷ 43 ∷ 44 ∷ 45 ∷ 46 ∷ 47 ∷ 48 ∷ 49 ∷ 50 ∷ 51 ∷ 52 ∷ 53 ∷ 54 ∷ 55 ∷ 56 ∷ 57 ∷ 58 ∷ 59 ∷ 60 ∷ 61 ∷ 62 ∷ 63 ∷ 64 ∷ 65 ∷ 66 ∷ 67 ∷ 68 ∷ 69 ∷ 70 ∷ 71 ∷ 72 ∷ 73 ∷ 74 ∷ 75 ∷ 76 ∷ 77 ∷ 78 ∷ 79 ∷ 80 ∷ 81 ∷ 82 ∷ 83 ∷ 84 ∷ 85 ∷ 86 ∷ []) $ carried-fault x (change-is x _ is) (e ∙ ap (λ (s : Step). doneOf (stepOf h s)) s) room z refl)))))))
+
+        -- what `Timeout` changes is carried out
+        carried-timeout : {y2 y38 : Val} (x : Change) → Is S.the-row x (LL.val S.the-type S′.the-laws x ∷ []) → changed h x ≡ doneOf (stepOf h (stepFor call (bytesIn f) room)) → (zs : List ℕ) → zs ≡ roomFor h call room → length zs ≡ length room → Sq W (‵ (fobs γ (T.the-row .coded .code h)) ∷ ‵ (fbor κ (Body (mem T.the-row) b o γ)) ∷ ‵ (flft κ q) ∷ ‵ (flft κ-room q-room) ∷ ‵ (finally u8 γ-room zs) ∷ ‵ (froom Answer-row′.mir l0 0) ∷ ‵ (fat fullShare (tyRef (named 0) mut rec-ty) l1 0 (vptr b o)) ∷ ‵ (fat fullShare Call-row′.mir l2 0 y2) ∷ ‵ (fat fullShare Frame-row′.mir l3 0 (LL.val Frame-row.the-type Frame-row′.the-laws f)) ∷ ‵ (fat fullShare (sliceTy (tyRef (named 1) mut (tyInt w8))) l4 0 s-room) ∷ ‵ (froom out-ty l5 0) ∷ ‵ (froom (tyInt w8) l6 0) ∷ ‵ (froom (tyInt w8) l7 0) ∷ ‵ (froom (tyInt w8) l8 0) ∷ ‵ (froom out-ty l9 0) ∷ ‵ (froom Sync-row′.mir l10 0) ∷ ‵ (froom out-ty l11 0) ∷ ‵ (froom out-ty l12 0) ∷ ‵ (froom (tyInt w8) l13 0) ∷ ‵ (froom out-ty l14 0) ∷ ‵ (froom tyBool l15 0) ∷ ‵ (froom out-ty l16 0) ∷ ‵ (froom Fault-row′.mir l17 0) ∷ ‵ (froom out-ty l18 0) ∷ ‵ (fat fullShare out-ty l19 0 (LL.val S.the-type S′.the-laws x)) ∷ ‵ (froom Answer-row′.mir l20 0) ∷ ‵ (froom T′.mir l21 0) ∷ ‵ (froom (tyRef erased mut rec-ty) l22 0) ∷ ‵ (froom T′.mir l23 0) ∷ ‵ (froom T′.mir l24 0) ∷ ‵ (froom (tyRef erased mut rec-ty) l25 0) ∷ ‵ (froom T′.mir l26 0) ∷ ‵ (froom (tyRef erased mut rec-ty) l27 0) ∷ ‵ (froom T′.mir l28 0) ∷ ‵ (froom (tyRef erased mut rec-ty) l29 0) ∷ ‵ (froom T′.mir l30 0) ∷ ‵ (froom (tyRef erased mut (tyInt w8)) l31 0) ∷ ‵ (froom (sliceTy (tyRef erased mut (tyInt w8))) l32 0) ∷ ‵ (froom (tyRef erased mut rec-ty) l33 0) ∷ ‵ (froom T′.mir l34 0) ∷ ‵ (froom (tyRef erased mut rec-ty) l35 0) ∷ ‵ (froom T′.mir l36 0) ∷ ‵ (froom (tyRef erased mut rec-ty) l37 0) ∷ ‵ (fat fullShare T′.mir l38 0 y38) ∷ ‵ (froom (tyRef erased mut rec-ty) l39 0) ∷ Dies) (runs C Λ En (carrying 39 19) (anyQ (Next call)))
+        carried-timeout x x-is e zs z l =
+            assigns ! (addr ! (from ! (hop ! (look ! 6 refl) (stop !)))) (from ! (stop !)) (init ! 44 refl (tt, tt)) $
+            group ! 3 $ use1 W (raw ((Carries 𝓤 H A at-mem run) .pre (to-carry x))) (asked-carry x x-is) $
+            calls-at-last ! fm (Carries 𝓤 H A at-mem run) known-carries (to-carry x) (and-then ! (load ! (from ! (stop !)) (look ! 42 refl)) (and-then ! (load ! (from ! (stop !)) (look ! 22 refl)) (no-more !))) (λ v.
+            use1 W (later (some (λ (m : Answer). ((‵ (flft κ q) ⊛ ‵ ftrue) ⊛ ‵ (Answer-row.the-row .own m (v ∷ []))) ⊛ raw (ensured 𝓤 H A carries.ended (carries.clauses 𝓤 H A at-mem run) (κ, tt) (args-carry x) tt m)))) (id⊢ 𝓤 _) $ await ! tt $ pick ! (λ m.
+            split ! $ move ! (1 ∷ []) $ use1 W (some (λ (ws : Lasts carries.ended (κ, tt) (args-carry x)). ‵ (lasts carries.ended (κ, tt) (args-carry x) ws) ⊛ raw (fact 𝓤 ((ws .0 ≡ changed h x .next) × (m ≡ x .answer))))) (id⊢ 𝓤 _) $ pick ! (λ ws.
+            split ! $ move ! (1 ∷ []) $ heard ! ((ws .0 ≡ changed h x .next) × (m ≡ x .answer)) (λ d. fsplit ! $
+            move ! (2 ∷ []) $ split ! $ move ! (1 ∷ []) $ peeks ! Answer-row.the-row (Is Answer-row.the-row) (shows 𝓤 H A Answer-row.the-row) m (v ∷ []) (λ is. drop ! $ split ! $
+            land-last ! (from ! (stop !)) (init ! 26 refl (EL.lawful Answer-row.the-type Answer-row′.the-laws 𝓤 H A W tt .typed m _ is .0)) $ rewrite ! 26 (λ (u : Val). ‵ (fat fullShare Answer-row′.mir l20 0 u)) (ap only (EL.tells Answer-row.the-type Answer-row′.the-laws m _ is)) refl $
+            exec ! C Λ En pieces.t-2 (atRet En (Post call)) $ forget ! 25 refl $ forget ! 44 refl $ forget ! 45 refl $
+            keep ! (2 ∷ 0 ∷ 4 ∷ 5 ∷ 6 ∷ 7 ∷ 8 ∷ 9 ∷ 10 ∷ 11 ∷ 12 ∷ 13 ∷ 14 ∷ 15 ∷ 16 ∷ 17 ∷ 18 ∷ 19 ∷ 20 ∷ 21 ∷ 22 ∷ 23 ∷ 24 ∷ 25 ∷ 26 ∷ 27 ∷ 28 ∷ 29 ∷ 30 ∷ 31 ∷ 32 ∷ 33 ∷ 34 ∷ 35 ∷ 36 ∷ 37 ∷ 38 ∷ 39 ∷ 40 ∷ 41 ∷ 42 ∷ 43 ∷ 44 ∷ 45 ∷ 46 ∷ 47 ∷ 48 ∷ 49 ∷ 50 ∷ 51 ∷ 52 ∷ 53 ∷ 54 ∷ 55 ∷ 56 ∷ 57 ∷ 58 ∷ 59 ∷ 60 ∷ 61 ∷ 62 ∷ 63 ∷ 64 ∷ 65 ∷ 66 ∷ 67 ∷ 68 ∷ 69 ∷ 70 ∷ 71 ∷ 72 ∷ 73 ∷ 74 ∷ 75 ∷ 76 ∷ 77 ∷ 78 ∷ 79 ∷ 80 ∷ 81 ∷ 82 ∷ 83 ∷ 84 ∷ 85 ∷ []) $ answered (ws .0) m zs (d .0 ∙ ap (λ (u : Done). u .next) e, d .1 ∙ ap (λ (u : Done). u .answer) e, z) (answer-is m _ is) l)))))
+
+        -- Timeout
+        on-timeout : {y2 : Val} → timeout ≡ stepFor call (bytesIn f) room → room ≡ roomFor h call room → Sq W (‵ Rec ∷ ‵ (flft κ q) ∷ ‵ Room′ ∷ ‵ (flft κ-room q-room) ∷ ‵ (froom Answer-row′.mir l0 0) ∷ ‵ (fat fullShare (tyRef (named 0) mut rec-ty) l1 0 (vptr b o)) ∷ ‵ (fat fullShare Call-row′.mir l2 0 y2) ∷ ‵ (fat fullShare Frame-row′.mir l3 0 (LL.val Frame-row.the-type Frame-row′.the-laws f)) ∷ ‵ (fat fullShare (sliceTy (tyRef (named 1) mut (tyInt w8))) l4 0 s-room) ∷ ‵ (froom out-ty l5 0) ∷ ‵ (froom (tyInt w8) l6 0) ∷ ‵ (froom (tyInt w8) l7 0) ∷ ‵ (froom (tyInt w8) l8 0) ∷ ‵ (froom out-ty l9 0) ∷ ‵ (froom Sync-row′.mir l10 0) ∷ ‵ (froom out-ty l11 0) ∷ ‵ (froom out-ty l12 0) ∷ ‵ (froom (tyInt w8) l13 0) ∷ ‵ (froom out-ty l14 0) ∷ ‵ (froom tyBool l15 0) ∷ ‵ (froom out-ty l16 0) ∷ ‵ (froom Fault-row′.mir l17 0) ∷ ‵ (froom out-ty l18 0) ∷ ‵ (froom out-ty l19 0) ∷ ‵ (froom Answer-row′.mir l20 0) ∷ ‵ (froom T′.mir l21 0) ∷ ‵ (froom (tyRef erased mut rec-ty) l22 0) ∷ ‵ (froom T′.mir l23 0) ∷ ‵ (froom T′.mir l24 0) ∷ ‵ (froom (tyRef erased mut rec-ty) l25 0) ∷ ‵ (froom T′.mir l26 0) ∷ ‵ (froom (tyRef erased mut rec-ty) l27 0) ∷ ‵ (froom T′.mir l28 0) ∷ ‵ (froom (tyRef erased mut rec-ty) l29 0) ∷ ‵ (froom T′.mir l30 0) ∷ ‵ (froom (tyRef erased mut (tyInt w8)) l31 0) ∷ ‵ (froom (sliceTy (tyRef erased mut (tyInt w8))) l32 0) ∷ ‵ (froom (tyRef erased mut rec-ty) l33 0) ∷ ‵ (froom T′.mir l34 0) ∷ ‵ (froom (tyRef erased mut rec-ty) l35 0) ∷ ‵ (froom T′.mir l36 0) ∷ ‵ (froom (tyRef erased mut rec-ty) l37 0) ∷ ‵ (froom T′.mir l38 0) ∷ ‵ (froom (tyRef erased mut rec-ty) l39 0) ∷ Dies) (runs C Λ En code-timeout (anyQ (Next call)))
+        on-timeout s z =
+            fsplit3 ! $ drop ! $
+            opens ! tt T.the-row {h = h} b o (λ vs. spelt ! T.the-row (Is T.the-row) (shows 𝓤 H A T.the-row) (LL.vals T.the-type T′.the-laws) (LL.tells T.the-type T′.the-laws) fullShare h vs b o $
+            move ! (1 ∷ []) $ peeks ! T.the-row (Is T.the-row) (shows 𝓤 H A T.the-row) h (mach h ∷ []) (λ was.
+            assigns ! (of-opd ! (load ! (from ! (hop ! (look ! 8 refl) (stop !))) (look-raw ! 1 refl))) (from ! (stop !)) (init ! 45 refl (LL.lawful T.the-type T′.the-laws 𝓤 H A W .typed h _ was .0)) $
+            move ! (1 ∷ 0 ∷ 2 ∷ 3 ∷ 4 ∷ []) $ closes ! tt T.the-row h (mach h ∷ []) b o $
+            move ! (3 ∷ []) $ fsplit ! $ move ! (1 ∷ []) $ fsplit ! $
+            use1 W (‵ (fres γ-room (codedHoleys u8 .code (heres u8 room)))) (W .names .obs-res γ-room (codedHoleys u8 .code (heres u8 room))) $ use1 W (‵ (finally u8 γ-room room)) (res-finally 𝓤 H A W (named 1) κ-room u8 γ-room room) $
+            use0 W (raw ((Timeouts 𝓤 H A at-mem run) .pre to-timeout)) (asked-timeout was) $
+            calls-at ! fm (Timeouts 𝓤 H A at-mem run) known-timeouts to-timeout (and-then ! (load ! (from ! (stop !)) (look ! 46 refl)) (no-more !)) (λ v.
+            use1 W (later (some (λ (x : Change). (‵ ftrue ⊛ ‵ (S.the-row .own x (v ∷ []))) ⊛ raw (ensured 𝓤 H A timeouts.ended (timeouts.clauses 𝓤 H A at-mem run) tt args-timeout tt x)))) (id⊢ 𝓤 _) $ await ! tt $ pick ! (λ x.
+            split ! $ move ! (1 ∷ []) $ use1 W (some (λ (ws : Lasts timeouts.ended tt args-timeout). ‵ (lasts timeouts.ended tt args-timeout ws) ⊛ raw (fact 𝓤 (changed h x ≡ doneOf (stepOf h (timeout)))))) (id⊢ 𝓤 _) $ pick ! (λ ws.
+            split ! $ move ! (1 ∷ []) $ heard ! (changed h x ≡ doneOf (stepOf h (timeout))) (λ e. drop ! $ split ! $ drop ! $
+            peeks ! S.the-row (Is S.the-row) (shows 𝓤 H A S.the-row) x (v ∷ []) (λ is. drop ! $
+            land ! (from ! (stop !)) (init ! 26 refl (LL.lawful S.the-type S′.the-laws 𝓤 H A W .typed x _ is .0)) $ rewrite ! 26 (λ (u : Val). ‵ (fat fullShare out-ty l19 0 u)) (ap only (LL.tells S.the-type S′.the-laws x _ is)) refl $
+            keep ! (3 ∷ 4 ∷ 5 ∷ 6 ∷ 0 ∷ 7 ∷ 8 ∷ 9 ∷ 10 ∷ 11 ∷ 12 ∷ 13 ∷ 14 ∷ 15 ∷ 16 ∷ 17 ∷ 18 ∷ 19 ∷ 20 ∷ 21 ∷ 22 ∷ 23 ∷ 24 ∷ 25 ∷ 26 ∷ 27 ∷ 28 ∷ 29 ∷ 30 ∷ 31 ∷ 32 ∷ 33 ∷ 34 ∷ 35 ∷ 36 ∷ 37 ∷ 38 ∷ 39 ∷ 40 ∷ 41 ∷ 42 ∷ 43 ∷ 44 ∷ 45 ∷ 46 ∷ 47 ∷ 48 ∷ 49 ∷ 50 ∷ 51 ∷ 52 ∷ 53 ∷ 54 ∷ 55 ∷ 56 ∷ 57 ∷ 58 ∷ 59 ∷ 60 ∷ 61 ∷ 62 ∷ 63 ∷ 64 ∷ 65 ∷ 66 ∷ 67 ∷ 68 ∷ 69 ∷ 70 ∷ 71 ∷ 72 ∷ 73 ∷ 74 ∷ 75 ∷ 76 ∷ 77 ∷ 78 ∷ 79 ∷ 80 ∷ 81 ∷ 82 ∷ 83 ∷ 84 ∷ 85 ∷ 86 ∷ []) $ carried-timeout x (change-is x _ is) (e ∙ ap (λ (s : Step). doneOf (stepOf h s)) s) room z refl)))))))
 
       -- the switch: what is left computes to the arm that runs
-      matched : (call : Call) → Is Call-row.the-row call (EL.val Call-row.the-type Call-row′.the-laws call ∷ []) → Sq W (‵ Rec ∷ ‵ (flft κ q) ∷ ‵ Room′ ∷ ‵ (flft κ-room q-room) ∷ ‵ (froom Answer-row′.mir l0 0) ∷ ‵ (fat fullShare (tyRef (named 0) mut rec-ty) l1 0 (vptr b o)) ∷ ‵ (fat fullShare Call-row′.mir l2 0 (EL.val Call-row.the-type Call-row′.the-laws call)) ∷ ‵ (fat fullShare Frame-row′.mir l3 0 (LL.val Frame-row.the-type Frame-row′.the-laws f)) ∷ ‵ (fat fullShare (sliceTy (tyRef (named 1) mut (tyInt w8))) l4 0 s-room) ∷ ‵ (froom (tyInt w8) l5 0) ∷ ‵ (froom (tyInt w8) l6 0) ∷ ‵ (froom (tyInt w8) l7 0) ∷ ‵ (froom out-ty l8 0) ∷ ‵ (froom tyBool l9 0) ∷ ‵ (froom out-ty l10 0) ∷ ‵ (froom out-ty l11 0) ∷ ‵ (froom Answer-row′.mir l12 0) ∷ ‵ (froom T′.mir l13 0) ∷ ‵ (froom T′.mir l14 0) ∷ ‵ (froom (tyRef erased mut rec-ty) l15 0) ∷ ‵ (froom T′.mir l16 0) ∷ ‵ (froom (tyRef erased mut rec-ty) l17 0) ∷ ‵ (froom T′.mir l18 0) ∷ ‵ (froom (tyRef erased mut (tyInt w8)) l19 0) ∷ ‵ (froom (sliceTy (tyRef erased mut (tyInt w8))) l20 0) ∷ ‵ (froom (tyRef erased mut rec-ty) l21 0) ∷ Dies) (runs C Λ En the-match (anyQ (Next call)))
-      matched (Read n) i =
-          switches-on ! (load ! (from ! (vrt ! refl (fld ! refl (stop !)))) (look-tag ! 6 (whole !))) $ exec ! C Λ En (taken 5 1 1 code-read) (anyQ (Next (Read n))) $
-          assigns ! (of-opd ! (load ! (from ! (vrt ! refl (fld ! refl (stop !)))) (look-in ! 6 (in-variant ! 1 0 refl refl (whole !))))) (from ! (stop !)) (init ! 9 refl (tt, record { fits = EL.owed Call-row.the-type Call-row′.the-laws (Read n) _ i .0 .1 })) $
-          reading (Read n) i n (EL.owed Call-row.the-type Call-row′.the-laws (Read n) _ i .0 .1) refl refl
-      matched (Write n u) i =
-          switches-on ! (load ! (from ! (vrt ! refl (fld ! refl (stop !)))) (look-tag ! 6 (whole !))) $ exec ! C Λ En (taken 6 2 1 (taken 7 2 2 code-writing)) (anyQ (Next (Write n u))) $
-          assigns ! (of-opd ! (load ! (from ! (vrt ! refl (fld ! refl (stop !)))) (look-in ! 6 (in-variant ! 2 0 refl refl (whole !))))) (from ! (stop !)) (init ! 10 refl (tt, record { fits = EL.owed Call-row.the-type Call-row′.the-laws (Write n u) _ i .0 .1 })) $
-          assigns ! (of-opd ! (load ! (from ! (vrt ! refl (fld ! refl (stop !)))) (look-in ! 6 (in-variant ! 2 1 refl refl (whole !))))) (from ! (stop !)) (init ! 11 refl (tt, record { fits = EL.owed Call-row.the-type Call-row′.the-laws (Write n u) _ i .1 .0 .1 })) $
-          writing (Write n u) i n u (EL.owed Call-row.the-type Call-row′.the-laws (Write n u) _ i .0 .1) (EL.owed Call-row.the-type Call-row′.the-laws (Write n u) _ i .1 .0 .1) refl refl
-      matched (Frame good) i =
-          switches-on ! (load ! (from ! (vrt ! refl (fld ! refl (stop !)))) (look-tag ! 6 (whole !))) $ exec ! C Λ En (taken 9 6 1 code-framing) (anyQ (Next (Frame good))) $
-          assigns ! (of-opd ! (load ! (from ! (vrt ! refl (fld ! refl (stop !)))) (look-in ! 6 (in-variant ! 6 0 refl refl (whole !))))) (from ! (stop !)) (init ! 13 refl (tt, tt)) $
-          framing (Frame good) i good refl refl
+      matched : (call : Call) → Is Call-row.the-row call (EL.val Call-row.the-type Call-row′.the-laws call ∷ []) → Sq W (‵ Rec ∷ ‵ (flft κ q) ∷ ‵ Room′ ∷ ‵ (flft κ-room q-room) ∷ ‵ (froom Answer-row′.mir l0 0) ∷ ‵ (fat fullShare (tyRef (named 0) mut rec-ty) l1 0 (vptr b o)) ∷ ‵ (fat fullShare Call-row′.mir l2 0 (EL.val Call-row.the-type Call-row′.the-laws call)) ∷ ‵ (fat fullShare Frame-row′.mir l3 0 (LL.val Frame-row.the-type Frame-row′.the-laws f)) ∷ ‵ (fat fullShare (sliceTy (tyRef (named 1) mut (tyInt w8))) l4 0 s-room) ∷ ‵ (froom out-ty l5 0) ∷ ‵ (froom (tyInt w8) l6 0) ∷ ‵ (froom (tyInt w8) l7 0) ∷ ‵ (froom (tyInt w8) l8 0) ∷ ‵ (froom out-ty l9 0) ∷ ‵ (froom Sync-row′.mir l10 0) ∷ ‵ (froom out-ty l11 0) ∷ ‵ (froom out-ty l12 0) ∷ ‵ (froom (tyInt w8) l13 0) ∷ ‵ (froom out-ty l14 0) ∷ ‵ (froom tyBool l15 0) ∷ ‵ (froom out-ty l16 0) ∷ ‵ (froom Fault-row′.mir l17 0) ∷ ‵ (froom out-ty l18 0) ∷ ‵ (froom out-ty l19 0) ∷ ‵ (froom Answer-row′.mir l20 0) ∷ ‵ (froom T′.mir l21 0) ∷ ‵ (froom (tyRef erased mut rec-ty) l22 0) ∷ ‵ (froom T′.mir l23 0) ∷ ‵ (froom T′.mir l24 0) ∷ ‵ (froom (tyRef erased mut rec-ty) l25 0) ∷ ‵ (froom T′.mir l26 0) ∷ ‵ (froom (tyRef erased mut rec-ty) l27 0) ∷ ‵ (froom T′.mir l28 0) ∷ ‵ (froom (tyRef erased mut rec-ty) l29 0) ∷ ‵ (froom T′.mir l30 0) ∷ ‵ (froom (tyRef erased mut (tyInt w8)) l31 0) ∷ ‵ (froom (sliceTy (tyRef erased mut (tyInt w8))) l32 0) ∷ ‵ (froom (tyRef erased mut rec-ty) l33 0) ∷ ‵ (froom T′.mir l34 0) ∷ ‵ (froom (tyRef erased mut rec-ty) l35 0) ∷ ‵ (froom T′.mir l36 0) ∷ ‵ (froom (tyRef erased mut rec-ty) l37 0) ∷ ‵ (froom T′.mir l38 0) ∷ ‵ (froom (tyRef erased mut rec-ty) l39 0) ∷ Dies) (runs C Λ En the-match (anyQ (Next call)))
       matched Reset i =
-          switches-on ! (load ! (from ! (vrt ! refl (fld ! refl (stop !)))) (look-tag ! 6 (whole !))) $ exec ! C Λ En code-resting (anyQ (Next Reset)) $
-          resting Reset i refl
+          switches-on ! (load ! (from ! (vrt ! refl (fld ! refl (stop !)))) (look-tag ! 6 (whole !))) $ exec ! C Λ En arm-reset (anyQ (Next Reset)) $
+          on-reset Reset i refl refl
+      matched (Read n) i =
+          switches-on ! (load ! (from ! (vrt ! refl (fld ! refl (stop !)))) (look-tag ! 6 (whole !))) $ exec ! C Λ En arm-read (anyQ (Next (Read n))) $
+          assigns ! (of-opd ! (load ! (from ! (vrt ! refl (fld ! refl (stop !)))) (look-in ! 6 (in-variant ! 1 0 refl refl (whole !))))) (from ! (stop !)) (init ! 10 refl (tt, record { fits = EL.owed Call-row.the-type Call-row′.the-laws (Read n) _ i .0 .1 })) $
+          on-read (Read n) i n (EL.owed Call-row.the-type Call-row′.the-laws (Read n) _ i .0 .1) refl refl
+      matched (Write n u) i =
+          switches-on ! (load ! (from ! (vrt ! refl (fld ! refl (stop !)))) (look-tag ! 6 (whole !))) $ exec ! C Λ En arm-write (anyQ (Next (Write n u))) $
+          assigns ! (of-opd ! (load ! (from ! (vrt ! refl (fld ! refl (stop !)))) (look-in ! 6 (in-variant ! 2 0 refl refl (whole !))))) (from ! (stop !)) (init ! 11 refl (tt, record { fits = EL.owed Call-row.the-type Call-row′.the-laws (Write n u) _ i .0 .1 })) $
+          assigns ! (of-opd ! (load ! (from ! (vrt ! refl (fld ! refl (stop !)))) (look-in ! 6 (in-variant ! 2 1 refl refl (whole !))))) (from ! (stop !)) (init ! 12 refl (tt, record { fits = EL.owed Call-row.the-type Call-row′.the-laws (Write n u) _ i .1 .0 .1 })) $
+          on-write (Write n u) i n u (EL.owed Call-row.the-type Call-row′.the-laws (Write n u) _ i .0 .1) (EL.owed Call-row.the-type Call-row′.the-laws (Write n u) _ i .1 .0 .1) refl refl
       matched (Sync k) i =
-          switches-on ! (load ! (from ! (vrt ! refl (fld ! refl (stop !)))) (look-tag ! 6 (whole !))) $ exec ! C Λ En code-resting (anyQ (Next (Sync k))) $
-          resting (Sync k) i refl
+          switches-on ! (load ! (from ! (vrt ! refl (fld ! refl (stop !)))) (look-tag ! 6 (whole !))) $ exec ! C Λ En arm-sync (anyQ (Next (Sync k))) $
+          assigns ! (of-opd ! (load ! (from ! (vrt ! refl (fld ! refl (stop !)))) (look-in ! 6 (in-variant ! 3 0 refl refl (whole !))))) (from ! (stop !)) (init ! 14 refl (EL.lawful Sync-row.the-type Sync-row′.the-laws 𝓤 H A W tt .typed k _ ((EL.owed Call-row.the-type Call-row′.the-laws (Sync k) _ i .0)) .0)) $
+          on-sync (Sync k) i k (EL.owed Call-row.the-type Call-row′.the-laws (Sync k) _ i .0) refl refl
       matched SyncDue i =
-          switches-on ! (load ! (from ! (vrt ! refl (fld ! refl (stop !)))) (look-tag ! 6 (whole !))) $ exec ! C Λ En code-resting (anyQ (Next SyncDue)) $
-          resting SyncDue i refl
+          switches-on ! (load ! (from ! (vrt ! refl (fld ! refl (stop !)))) (look-tag ! 6 (whole !))) $ exec ! C Λ En arm-due (anyQ (Next SyncDue)) $
+          on-due SyncDue i refl refl
       matched (Slot n) i =
-          switches-on ! (load ! (from ! (vrt ! refl (fld ! refl (stop !)))) (look-tag ! 6 (whole !))) $ exec ! C Λ En code-resting (anyQ (Next (Slot n))) $
-          resting (Slot n) i refl
+          switches-on ! (load ! (from ! (vrt ! refl (fld ! refl (stop !)))) (look-tag ! 6 (whole !))) $ exec ! C Λ En arm-slot (anyQ (Next (Slot n))) $
+          assigns ! (of-opd ! (load ! (from ! (vrt ! refl (fld ! refl (stop !)))) (look-in ! 6 (in-variant ! 5 0 refl refl (whole !))))) (from ! (stop !)) (init ! 17 refl (tt, record { fits = EL.owed Call-row.the-type Call-row′.the-laws (Slot n) _ i .0 .1 })) $
+          on-slot (Slot n) i n (EL.owed Call-row.the-type Call-row′.the-laws (Slot n) _ i .0 .1) refl refl
+      matched (Frame good) i =
+          switches-on ! (load ! (from ! (vrt ! refl (fld ! refl (stop !)))) (look-tag ! 6 (whole !))) $ exec ! C Λ En arm-framed (anyQ (Next (Frame good))) $
+          assigns ! (of-opd ! (load ! (from ! (vrt ! refl (fld ! refl (stop !)))) (look-in ! 6 (in-variant ! 6 0 refl refl (whole !))))) (from ! (stop !)) (init ! 19 refl (tt, tt)) $
+          on-framed (Frame good) i good refl refl
       matched (Fault k) i =
-          switches-on ! (load ! (from ! (vrt ! refl (fld ! refl (stop !)))) (look-tag ! 6 (whole !))) $ exec ! C Λ En code-resting (anyQ (Next (Fault k))) $
-          resting (Fault k) i refl
+          switches-on ! (load ! (from ! (vrt ! refl (fld ! refl (stop !)))) (look-tag ! 6 (whole !))) $ exec ! C Λ En arm-fault (anyQ (Next (Fault k))) $
+          assigns ! (of-opd ! (load ! (from ! (vrt ! refl (fld ! refl (stop !)))) (look-in ! 6 (in-variant ! 7 0 refl refl (whole !))))) (from ! (stop !)) (init ! 21 refl (EL.lawful Fault-row.the-type Fault-row′.the-laws 𝓤 H A W tt .typed k _ ((EL.owed Call-row.the-type Call-row′.the-laws (Fault k) _ i .0)) .0)) $
+          on-fault (Fault k) i k (EL.owed Call-row.the-type Call-row′.the-laws (Fault k) _ i .0) refl refl
       matched Timeout i =
-          switches-on ! (load ! (from ! (vrt ! refl (fld ! refl (stop !)))) (look-tag ! 6 (whole !))) $ exec ! C Λ En code-resting (anyQ (Next Timeout)) $
-          resting Timeout i refl
+          switches-on ! (load ! (from ! (vrt ! refl (fld ! refl (stop !)))) (look-tag ! 6 (whole !))) $ exec ! C Λ En arm-timeout (anyQ (Next Timeout)) $
+          on-timeout Timeout i refl refl
 
-      started : (call : Call) → Is Call-row.the-row call (EL.val Call-row.the-type Call-row′.the-laws call ∷ []) → Sq W (‵ Rec ∷ ‵ (flft κ q) ∷ ‵ Room′ ∷ ‵ (flft κ-room q-room) ∷ ‵ (froom Answer-row′.mir l0 0) ∷ ‵ (fat fullShare (tyRef (named 0) mut rec-ty) l1 0 (vptr b o)) ∷ ‵ (fat fullShare Call-row′.mir l2 0 (EL.val Call-row.the-type Call-row′.the-laws call)) ∷ ‵ (fat fullShare Frame-row′.mir l3 0 (LL.val Frame-row.the-type Frame-row′.the-laws f)) ∷ ‵ (fat fullShare (sliceTy (tyRef (named 1) mut (tyInt w8))) l4 0 s-room) ∷ ‵ (froom (tyInt w8) l5 0) ∷ ‵ (froom (tyInt w8) l6 0) ∷ ‵ (froom (tyInt w8) l7 0) ∷ ‵ (froom out-ty l8 0) ∷ ‵ (froom tyBool l9 0) ∷ ‵ (froom out-ty l10 0) ∷ ‵ (froom out-ty l11 0) ∷ ‵ (froom Answer-row′.mir l12 0) ∷ ‵ (froom T′.mir l13 0) ∷ ‵ (froom T′.mir l14 0) ∷ ‵ (froom (tyRef erased mut rec-ty) l15 0) ∷ ‵ (froom T′.mir l16 0) ∷ ‵ (froom (tyRef erased mut rec-ty) l17 0) ∷ ‵ (froom T′.mir l18 0) ∷ ‵ (froom (tyRef erased mut (tyInt w8)) l19 0) ∷ ‵ (froom (sliceTy (tyRef erased mut (tyInt w8))) l20 0) ∷ ‵ (froom (tyRef erased mut rec-ty) l21 0) ∷ Dies) (runs C Λ En pieces.t-1 (atRet En (Post call)))
+      started : (call : Call) → Is Call-row.the-row call (EL.val Call-row.the-type Call-row′.the-laws call ∷ []) → Sq W (‵ Rec ∷ ‵ (flft κ q) ∷ ‵ Room′ ∷ ‵ (flft κ-room q-room) ∷ ‵ (froom Answer-row′.mir l0 0) ∷ ‵ (fat fullShare (tyRef (named 0) mut rec-ty) l1 0 (vptr b o)) ∷ ‵ (fat fullShare Call-row′.mir l2 0 (EL.val Call-row.the-type Call-row′.the-laws call)) ∷ ‵ (fat fullShare Frame-row′.mir l3 0 (LL.val Frame-row.the-type Frame-row′.the-laws f)) ∷ ‵ (fat fullShare (sliceTy (tyRef (named 1) mut (tyInt w8))) l4 0 s-room) ∷ ‵ (froom out-ty l5 0) ∷ ‵ (froom (tyInt w8) l6 0) ∷ ‵ (froom (tyInt w8) l7 0) ∷ ‵ (froom (tyInt w8) l8 0) ∷ ‵ (froom out-ty l9 0) ∷ ‵ (froom Sync-row′.mir l10 0) ∷ ‵ (froom out-ty l11 0) ∷ ‵ (froom out-ty l12 0) ∷ ‵ (froom (tyInt w8) l13 0) ∷ ‵ (froom out-ty l14 0) ∷ ‵ (froom tyBool l15 0) ∷ ‵ (froom out-ty l16 0) ∷ ‵ (froom Fault-row′.mir l17 0) ∷ ‵ (froom out-ty l18 0) ∷ ‵ (froom out-ty l19 0) ∷ ‵ (froom Answer-row′.mir l20 0) ∷ ‵ (froom T′.mir l21 0) ∷ ‵ (froom (tyRef erased mut rec-ty) l22 0) ∷ ‵ (froom T′.mir l23 0) ∷ ‵ (froom T′.mir l24 0) ∷ ‵ (froom (tyRef erased mut rec-ty) l25 0) ∷ ‵ (froom T′.mir l26 0) ∷ ‵ (froom (tyRef erased mut rec-ty) l27 0) ∷ ‵ (froom T′.mir l28 0) ∷ ‵ (froom (tyRef erased mut rec-ty) l29 0) ∷ ‵ (froom T′.mir l30 0) ∷ ‵ (froom (tyRef erased mut (tyInt w8)) l31 0) ∷ ‵ (froom (sliceTy (tyRef erased mut (tyInt w8))) l32 0) ∷ ‵ (froom (tyRef erased mut rec-ty) l33 0) ∷ ‵ (froom T′.mir l34 0) ∷ ‵ (froom (tyRef erased mut rec-ty) l35 0) ∷ ‵ (froom T′.mir l36 0) ∷ ‵ (froom (tyRef erased mut rec-ty) l37 0) ∷ ‵ (froom T′.mir l38 0) ∷ ‵ (froom (tyRef erased mut rec-ty) l39 0) ∷ Dies) (runs C Λ En pieces.t-1 (atRet En (Post call)))
       started call call-is = first ! $ matched call call-is
 
     walk : (call : Call) → Is Call-row.the-row call (EL.val Call-row.the-type Call-row′.the-laws call ∷ []) → ent 𝓤 (onEntry 𝓤 H A this.signature (κ, (κ-room, tt)) (q, (q-room, tt)) (a call) (at call)) (WpFn 𝓤 H C Λ code.function (vptr b o ∷ EL.val Call-row.the-type Call-row′.the-laws call ∷ LL.val Frame-row.the-type Frame-row′.the-laws f ∷ s-room ∷ []) (Post call))
     walk call call-is =
         qed W ((‵ (flft κ q) ⊛ ‵ (flft κ-room q-room) ⊛ ‵ ftrue) ∷ ‵ (owns (MutRef (named 0) κ T.the-row ∷ Call-row.the-row ∷ Frame-row.the-row ∷ MutSlice (named 1) κ-room u8 ∷ []) (a call) (at call)) ∷ []) ∵ split ! $ move ! (1 ∷ []) $ split ! $ move ! (3 ∷ []) $ fsplit ! $ move ! (1 ∷ []) $ fsplit ! $ drop ! $ fsplit ! $ drop ! $ fsplit ! $ move ! (1 ∷ []) $ keep ! (2 ∷ 5 ∷ 1 ∷ 3 ∷ []) $
         enter ! C Λ code.function (vptr b o ∷ EL.val Call-row.the-type Call-row′.the-laws call ∷ LL.val Frame-row.the-type Frame-row′.the-laws f ∷ s-room ∷ []) _ $
-        alloc1 ! (λ l0. alloc1 ! (λ l1. alloc1 ! (λ l2. alloc1 ! (λ l3. alloc1 ! (λ l4. alloc1 ! (λ l5. alloc1 ! (λ l6. alloc1 ! (λ l7. alloc1 ! (λ l8. alloc1 ! (λ l9. alloc1 ! (λ l10. alloc1 ! (λ l11. alloc1 ! (λ l12. alloc1 ! (λ l13. alloc1 ! (λ l14. alloc1 ! (λ l15. alloc1 ! (λ l16. alloc1 ! (λ l17. alloc1 ! (λ l18. alloc1 ! (λ l19. alloc1 ! (λ l20. alloc1 ! (λ l21. alloc0 ! $ params1 ! $
-        pass1 ! (init ! 40 refl (tt, tt)) $ pass1 ! (init ! 38 refl (EL.lawful Call-row.the-type Call-row′.the-laws 𝓤 H A W tt .typed call _ call-is .0)) $ pass1 ! (init ! 36 refl (LL.lawful Frame-row.the-type Frame-row′.the-laws 𝓤 H A W .typed f _ f-is .0)) $ pass1 ! (init ! 34 refl (tt, (tt, (record { fits = room-room .0 }, tt)))) $ pass0 ! $
-        move ! (44 ∷ 45 ∷ 46 ∷ 47 ∷ 42 ∷ 40 ∷ 38 ∷ 36 ∷ 34 ∷ 32 ∷ 30 ∷ 28 ∷ 26 ∷ 24 ∷ 22 ∷ 20 ∷ 18 ∷ 16 ∷ 14 ∷ 12 ∷ 10 ∷ 8 ∷ 6 ∷ 4 ∷ 2 ∷ 0 ∷ 43 ∷ 41 ∷ 39 ∷ 37 ∷ 35 ∷ 33 ∷ 31 ∷ 29 ∷ 27 ∷ 25 ∷ 23 ∷ 21 ∷ 19 ∷ 17 ∷ 15 ∷ 13 ∷ 11 ∷ 9 ∷ 7 ∷ 5 ∷ 3 ∷ 1 ∷ []) $ started l0 l1 l2 l3 l4 l5 l6 l7 l8 l9 l10 l11 l12 l13 l14 l15 l16 l17 l18 l19 l20 l21 call call-is))))))))))))))))))))))
+        alloc1 ! (λ l0. alloc1 ! (λ l1. alloc1 ! (λ l2. alloc1 ! (λ l3. alloc1 ! (λ l4. alloc1 ! (λ l5. alloc1 ! (λ l6. alloc1 ! (λ l7. alloc1 ! (λ l8. alloc1 ! (λ l9. alloc1 ! (λ l10. alloc1 ! (λ l11. alloc1 ! (λ l12. alloc1 ! (λ l13. alloc1 ! (λ l14. alloc1 ! (λ l15. alloc1 ! (λ l16. alloc1 ! (λ l17. alloc1 ! (λ l18. alloc1 ! (λ l19. alloc1 ! (λ l20. alloc1 ! (λ l21. alloc1 ! (λ l22. alloc1 ! (λ l23. alloc1 ! (λ l24. alloc1 ! (λ l25. alloc1 ! (λ l26. alloc1 ! (λ l27. alloc1 ! (λ l28. alloc1 ! (λ l29. alloc1 ! (λ l30. alloc1 ! (λ l31. alloc1 ! (λ l32. alloc1 ! (λ l33. alloc1 ! (λ l34. alloc1 ! (λ l35. alloc1 ! (λ l36. alloc1 ! (λ l37. alloc1 ! (λ l38. alloc1 ! (λ l39. alloc0 ! $ params1 ! $
+        pass1 ! (init ! 76 refl (tt, tt)) $ pass1 ! (init ! 74 refl (EL.lawful Call-row.the-type Call-row′.the-laws 𝓤 H A W tt .typed call _ call-is .0)) $ pass1 ! (init ! 72 refl (LL.lawful Frame-row.the-type Frame-row′.the-laws 𝓤 H A W .typed f _ f-is .0)) $ pass1 ! (init ! 70 refl (tt, (tt, (record { fits = room-room .0 }, tt)))) $ pass0 ! $
+        move ! (80 ∷ 81 ∷ 82 ∷ 83 ∷ 78 ∷ 76 ∷ 74 ∷ 72 ∷ 70 ∷ 68 ∷ 66 ∷ 64 ∷ 62 ∷ 60 ∷ 58 ∷ 56 ∷ 54 ∷ 52 ∷ 50 ∷ 48 ∷ 46 ∷ 44 ∷ 42 ∷ 40 ∷ 38 ∷ 36 ∷ 34 ∷ 32 ∷ 30 ∷ 28 ∷ 26 ∷ 24 ∷ 22 ∷ 20 ∷ 18 ∷ 16 ∷ 14 ∷ 12 ∷ 10 ∷ 8 ∷ 6 ∷ 4 ∷ 2 ∷ 0 ∷ 79 ∷ 77 ∷ 75 ∷ 73 ∷ 71 ∷ 69 ∷ 67 ∷ 65 ∷ 63 ∷ 61 ∷ 59 ∷ 57 ∷ 55 ∷ 53 ∷ 51 ∷ 49 ∷ 47 ∷ 45 ∷ 43 ∷ 41 ∷ 39 ∷ 37 ∷ 35 ∷ 33 ∷ 31 ∷ 29 ∷ 27 ∷ 25 ∷ 23 ∷ 21 ∷ 19 ∷ 17 ∷ 15 ∷ 13 ∷ 11 ∷ 9 ∷ 7 ∷ 5 ∷ 3 ∷ 1 ∷ []) $ started l0 l1 l2 l3 l4 l5 l6 l7 l8 l9 l10 l11 l12 l13 l14 l15 l16 l17 l18 l19 l20 l21 l22 l23 l24 l25 l26 l27 l28 l29 l30 l31 l32 l33 l34 l35 l36 l37 l38 l39 call call-is))))))))))))))))))))))))))))))))))))))))
 
 module _ {M : Type 1} (𝓤 : URA M) (H : Heap 𝓤) (A : Atoms 𝓤) (W : Given 𝓤 H A) (at-mem : Memory → SProp 𝓤) (run : Routine → Fun 𝓤) where
-  walks : (C : Calls 𝓤 H) (Λ : Loops 𝓤 H) → FmC 𝓤 H (W .laws) C → Triple 𝓤 (C #reads) (Reads 𝓤 H A at-mem run) → Triple 𝓤 (C #writes) (Writes 𝓤 H A at-mem run) → Triple 𝓤 (C #framed) (Framed 𝓤 H A at-mem run) → Triple 𝓤 (C #planned) (Planned 𝓤 H A at-mem run) → Triple 𝓤 (C #carries) (Carries 𝓤 H A at-mem run) → Walks 𝓤 H A this.ended stayed (WpFn 𝓤 H C Λ code.function) (this.clauses 𝓤 H A at-mem run)
-  walks C Λ fm known-reads known-writes known-framed known-planned known-carries = walked 𝓤 H A this.ended stayed (this.clauses 𝓤 H A at-mem run) (WpFn 𝓤 H C Λ code.function)
+  walks : (C : Calls 𝓤 H) (Λ : Loops 𝓤 H) → FmC 𝓤 H (W .laws) C → Triple 𝓤 (C #resets) (Resets 𝓤 H A at-mem run) → Triple 𝓤 (C #reads) (Reads 𝓤 H A at-mem run) → Triple 𝓤 (C #writes) (Writes 𝓤 H A at-mem run) → Triple 𝓤 (C #syncs) (Syncs 𝓤 H A at-mem run) → Triple 𝓤 (C #dues) (Dues 𝓤 H A at-mem run) → Triple 𝓤 (C #slots) (Slots 𝓤 H A at-mem run) → Triple 𝓤 (C #frameds) (Frameds 𝓤 H A at-mem run) → Triple 𝓤 (C #faults) (Faults 𝓤 H A at-mem run) → Triple 𝓤 (C #timeouts) (Timeouts 𝓤 H A at-mem run) → Triple 𝓤 (C #carries) (Carries 𝓤 H A at-mem run) → Walks 𝓤 H A this.ended stayed (WpFn 𝓤 H C Λ code.function) (this.clauses 𝓤 H A at-mem run)
+  walks C Λ fm known-resets known-reads known-writes known-syncs known-dues known-slots known-frameds known-faults known-timeouts known-carries = walked 𝓤 H A this.ended stayed (this.clauses 𝓤 H A at-mem run) (WpFn 𝓤 H C Λ code.function)
       (λ κs. (ptr-vals, (EL.vals Call-row.the-type Call-row′.the-laws, (LL.vals Frame-row.the-type Frame-row′.the-laws, (slice-vals, tt))))) (λ κs. (mut-tells (named 0) (κs .0) T.the-row, (EL.tells Call-row.the-type Call-row′.the-laws, (LL.tells Frame-row.the-type Frame-row′.the-laws, (mut-slice-tells (named 1) (κs .1 .0) u8, tt)))))
-      (λ κs qs bounds a g are. via 𝓤 _ (fst∗ 𝓤 _ (emp 𝓤)) (walk 𝓤 H A W at-mem run (κs .0) (κs .1 .0) (qs .0) (qs .1 .0) (a .0 .ptr .0) (a .0 .ptr .1) (a .0 .name) (a .0 .now) (a .1 .1 .0) (a .1 .1 .1 .0 .ptr .0) (a .1 .1 .1 .0 .ptr .1) (a .1 .1 .1 .0 .name) (a .1 .1 .1 .0 .now) (are .1 .1 .0) (are .1 .1 .1 .0 .0 .1) C Λ fm known-reads known-writes known-framed known-planned known-carries (a .1 .0) (are .1 .0)))
+      (λ κs qs bounds a g are. via 𝓤 _ (fst∗ 𝓤 _ (emp 𝓤)) (walk 𝓤 H A W at-mem run (κs .0) (κs .1 .0) (qs .0) (qs .1 .0) (a .0 .ptr .0) (a .0 .ptr .1) (a .0 .name) (a .0 .now) (a .1 .1 .0) (a .1 .1 .1 .0 .ptr .0) (a .1 .1 .1 .0 .ptr .1) (a .1 .1 .1 .0 .name) (a .1 .1 .1 .0 .now) (are .1 .1 .0) (are .1 .1 .1 .0 .0 .1) C Λ fm known-resets known-reads known-writes known-syncs known-dues known-slots known-frameds known-faults known-timeouts known-carries (a .1 .0) (are .1 .0)))
 
   goes : AllGo 𝓤 H A W 2 (this.signature .params) (this.ended .kept) stayed
   goes = (goes-gave-ref 𝓤 H A W 2 0 tt (plain (λ _. T.the-row)), (goes-none 𝓤 H A W 2 (λ _. Call-row.the-row) yes (λ κs x f. refl), (goes-none 𝓤 H A W 2 (λ _. Frame-row.the-row) yes (λ κs x f. refl), (goes-gave-slice 𝓤 H A W 2 1 tt (plain (λ _. u8)), tt))))
 
-meets : {M : Type 1} (𝓤 : URA M) (H : Heap 𝓤) (A : Atoms 𝓤) → Given 𝓤 H A → (at-mem : Memory → SProp 𝓤) (run : Routine → Fun 𝓤) (𝓣 : Tables 𝓤 H) → Triple 𝓤 (𝓣 .C #reads) (Reads 𝓤 H A at-mem run) → Triple 𝓤 (𝓣 .C #writes) (Writes 𝓤 H A at-mem run) → Triple 𝓤 (𝓣 .C #framed) (Framed 𝓤 H A at-mem run) → Triple 𝓤 (𝓣 .C #planned) (Planned 𝓤 H A at-mem run) → Triple 𝓤 (𝓣 .C #carries) (Carries 𝓤 H A at-mem run)
+meets : {M : Type 1} (𝓤 : URA M) (H : Heap 𝓤) (A : Atoms 𝓤) → Given 𝓤 H A → (at-mem : Memory → SProp 𝓤) (run : Routine → Fun 𝓤) (𝓣 : Tables 𝓤 H) → Triple 𝓤 (𝓣 .C #resets) (Resets 𝓤 H A at-mem run) → Triple 𝓤 (𝓣 .C #reads) (Reads 𝓤 H A at-mem run) → Triple 𝓤 (𝓣 .C #writes) (Writes 𝓤 H A at-mem run) → Triple 𝓤 (𝓣 .C #syncs) (Syncs 𝓤 H A at-mem run) → Triple 𝓤 (𝓣 .C #dues) (Dues 𝓤 H A at-mem run) → Triple 𝓤 (𝓣 .C #slots) (Slots 𝓤 H A at-mem run) → Triple 𝓤 (𝓣 .C #frameds) (Frameds 𝓤 H A at-mem run) → Triple 𝓤 (𝓣 .C #faults) (Faults 𝓤 H A at-mem run) → Triple 𝓤 (𝓣 .C #timeouts) (Timeouts 𝓤 H A at-mem run) → Triple 𝓤 (𝓣 .C #carries) (Carries 𝓤 H A at-mem run)
     → Meets 𝓤 H A this.signature (WpFn 𝓤 H (𝓣 .C) (𝓣 .Λ) code.function) (this.spec 𝓤 H A at-mem run)
-meets 𝓤 H A W at-mem run 𝓣 known-reads known-writes known-framed known-planned known-carries = walk-meets 𝓤 H A this.ended stayed W (goes 𝓤 H A W at-mem run) (this.clauses 𝓤 H A at-mem run) (WpFn 𝓤 H (𝓣 .C) (𝓣 .Λ) code.function) (WpFn-mono 𝓤 H (W .laws) 𝓣 code.function)
-    (walks 𝓤 H A W at-mem run (𝓣 .C) (𝓣 .Λ) (fmOf 𝓤 H (W .laws) 𝓣) known-reads known-writes known-framed known-planned known-carries)
+meets 𝓤 H A W at-mem run 𝓣 known-resets known-reads known-writes known-syncs known-dues known-slots known-frameds known-faults known-timeouts known-carries = walk-meets 𝓤 H A this.ended stayed W (goes 𝓤 H A W at-mem run) (this.clauses 𝓤 H A at-mem run) (WpFn 𝓤 H (𝓣 .C) (𝓣 .Λ) code.function) (WpFn-mono 𝓤 H (W .laws) 𝓣 code.function)
+    (walks 𝓤 H A W at-mem run (𝓣 .C) (𝓣 .Λ) (fmOf 𝓤 H (W .laws) 𝓣) known-resets known-reads known-writes known-syncs known-dues known-slots known-frameds known-faults known-timeouts known-carries)
 
 pub step-spec : {M : Type 1} → stated.statement M
 unfolding code.routine tablesOf
@@ -459,8 +757,13 @@ step-spec 𝓤 H 𝓜 𝓖 𝓡 =
     entered 𝓤 H (tripleOf 𝓤 H (𝓖 .A) this.signature (this.spec 𝓤 H (𝓖 .A) (𝓜 .mem) (𝓡 .run)))
     (tables 𝓤 H 𝓜 𝓡 code.env .C) (tables 𝓤 H 𝓜 𝓡 code.env .Λ) #this code.function (code.unfolded 𝓤 H 𝓜 𝓡)
     (meets 𝓤 H (𝓖 .A) (givenOf 𝓤 H 𝓜 𝓖) (𝓜 .mem) (𝓡 .run) (tablesOf 𝓤 H 𝓜 (tables 𝓤 H 𝓜 𝓡 code.env))
+    (cited 𝓤 H (Resets 𝓤 H (𝓖 .A) (𝓜 .mem) (𝓡 .run)) 𝓜 𝓡 code.env #resets resets-def.routine code.calls-controller·Controller·plan-reset (resets-thm.met 𝓤 H 𝓜 𝓖 𝓡))
     (cited 𝓤 H (Reads 𝓤 H (𝓖 .A) (𝓜 .mem) (𝓡 .run)) 𝓜 𝓡 code.env #reads reads-def.routine code.calls-lent·read (reads-thm.met 𝓤 H 𝓜 𝓖 𝓡))
     (cited 𝓤 H (Writes 𝓤 H (𝓖 .A) (𝓜 .mem) (𝓡 .run)) 𝓜 𝓡 code.env #writes writes-def.routine code.calls-controller·Controller·plan-write (writes-thm.met 𝓤 H 𝓜 𝓖 𝓡))
-    (cited 𝓤 H (Framed 𝓤 H (𝓖 .A) (𝓜 .mem) (𝓡 .run)) 𝓜 𝓡 code.env #framed framed-def.routine code.calls-lent·framed (framed-thm.met 𝓤 H 𝓜 𝓖 𝓡))
-    (cited 𝓤 H (Planned 𝓤 H (𝓖 .A) (𝓜 .mem) (𝓡 .run)) 𝓜 𝓡 code.env #planned planned-def.routine code.calls-lent·planned (planned-thm.met 𝓤 H 𝓜 𝓖 𝓡))
+    (cited 𝓤 H (Syncs 𝓤 H (𝓖 .A) (𝓜 .mem) (𝓡 .run)) 𝓜 𝓡 code.env #syncs syncs-def.routine code.calls-controller·Controller·plan-sync (syncs-thm.met 𝓤 H 𝓜 𝓖 𝓡))
+    (cited 𝓤 H (Dues 𝓤 H (𝓖 .A) (𝓜 .mem) (𝓡 .run)) 𝓜 𝓡 code.env #dues dues-def.routine code.calls-controller·Controller·plan-due (dues-thm.met 𝓤 H 𝓜 𝓖 𝓡))
+    (cited 𝓤 H (Slots 𝓤 H (𝓖 .A) (𝓜 .mem) (𝓡 .run)) 𝓜 𝓡 code.env #slots slots-def.routine code.calls-controller·Controller·plan-slot (slots-thm.met 𝓤 H 𝓜 𝓖 𝓡))
+    (cited 𝓤 H (Frameds 𝓤 H (𝓖 .A) (𝓜 .mem) (𝓡 .run)) 𝓜 𝓡 code.env #frameds frameds-def.routine code.calls-lent·framed (frameds-thm.met 𝓤 H 𝓜 𝓖 𝓡))
+    (cited 𝓤 H (Faults 𝓤 H (𝓖 .A) (𝓜 .mem) (𝓡 .run)) 𝓜 𝓡 code.env #faults faults-def.routine code.calls-controller·Controller·plan-fault (faults-thm.met 𝓤 H 𝓜 𝓖 𝓡))
+    (cited 𝓤 H (Timeouts 𝓤 H (𝓖 .A) (𝓜 .mem) (𝓡 .run)) 𝓜 𝓡 code.env #timeouts timeouts-def.routine code.calls-controller·Controller·plan-timeout (timeouts-thm.met 𝓤 H 𝓜 𝓖 𝓡))
     (cited 𝓤 H (Carries 𝓤 H (𝓖 .A) (𝓜 .mem) (𝓡 .run)) 𝓜 𝓡 code.env #carries carries-def.routine code.calls-lent·carry (carries-thm.met 𝓤 H 𝓜 𝓖 𝓡)))
