@@ -1,6 +1,6 @@
 #!/usr/bin/env python3
 """Write the walks of crate lent: usage: gen_lent.py carry|step > proofs/carry|step/Proof.antt, then rt fmt."""
-import os,sys
+import os,re,sys
 sys.path.insert(0,os.path.dirname(os.path.abspath(__file__)))
 from walk import Walk,Decl,lst,tup,par,G,AM
 crate="lent"; modp=f"Rattle.{crate}.proofs"; spec=f"Rattle.{crate}.specs"; FN=sys.argv[1]
@@ -12,6 +12,22 @@ Ctl=Decl("Control","Control-row","struct","rules",False)
 Row=Decl("Contents","Row","struct","contents",False)
 Ans=Decl("Answer","Answer-row","enum","rules",False)
 path=lambda i:" .1"*i+" .0"
+TEXT=[]
+def put(x): TEXT.append(x)
+def lean(text):
+    """the text without the imported names that it doesn't use"""
+    lines=text.split("\n"); rest="\n".join(l for l in lines if not l.startswith(("use ","--")))
+    words=set(re.findall(r"[^\s(){},;.]+",rest))
+    def used(n): n=n.split(" as ")[-1].strip(); return n.strip("_") in words
+    r=[]
+    for l in lines:
+        m=re.match(r"(use \S+)\.\{(.*)\}$",l)
+        if m and not re.search(r"^use (Rattle·\S+\.declared|Rattle·\S+\.(Symbol|Key))\b",l):
+            ns=[n for n in m.group(2).split(", ") if used(n)]
+            if not ns: continue
+            l=f"{m.group(1)}.{{{', '.join(ns)}}}"
+        r.append(l)
+    return "\n".join(r)
 # ---- what both walks share
 HEAD=f"""-- Assumes nothing.
 use mathlib.Core.Path.{{_≡_, refl, ap, sym, _∙_, subst}}
@@ -241,7 +257,7 @@ def carry():
     dc="placeᴹ 1 (deref T′.mir ∷ [])"; x_=lambda k:f"(copyᴹ (placeᴹ 2 (fieldᴹ {k} ∷ [])))"; cp=lambda k:f"(copyᴹ (placeᴹ {k} []))"
     bound=f"(((κ, tt), (q, tt), tt, a, at), tt)"
     TUP=f"LL.tuple-val {Row.a}.the-type {Row.a}′.the-laws"
-    print(f"""-- `lent::carry` meets its contract: a walk of its MIR. The borrow is opened, and the control state is stored behind it, and the buffer's bytes where one buffer's change; or the record is copied out, `Controller::after` changes it, and it is
+    put(f"""-- `lent::carry` meets its contract: a walk of its MIR. The borrow is opened, and the control state is stored behind it, and the buffer's bytes where one buffer's change; or the record is copied out, `Controller::after` changes it, and it is
 -- stored over the old one. The borrow is closed at the record that is there. All that the proof knows of `after` is that it meets its contract. Written by tools/gen_lent.py.
 {HEAD}
 use Prim.Native.Nat.{{_+_, _*_}}
@@ -390,12 +406,12 @@ module _ {G} (W : Given 𝓤 H A) {AM} (κ : Lft) (q : Share) (b o : ℕ) (γ : 
 """)
     order=["left","answered","changing","ruling","other","placed-there","placing","opened"]
     byname={l.split("\n")[1].split(" : ")[0].strip():l for l in lemmas}
-    print("\n".join(byname[n] for n in order))
-    print(f"""    walk : ent 𝓤 (onEntry 𝓤 H A this.signature (κ, tt) (q, tt) a at) (WpFn 𝓤 H C Λ code.function {FV} Post)
+    put("\n".join(byname[n] for n in order))
+    put(f"""    walk : ent 𝓤 (onEntry 𝓤 H A this.signature (κ, tt) (q, tt) a at) (WpFn 𝓤 H C Λ code.function {FV} Post)
     walk =
         qed W (({TOK} ⊛ ‵ ftrue) ∷ ‵ (owns (MutRef (named 0) κ T.the-row ∷ S.the-row ∷ []) a at) ∷ []) ∵ {walk}
 """)
-    print(tail([after],"carry",1,["ptr-vals",Cha.vals()],["mut-tells (named 0) (κs .0) T.the-row",Cha.tells()],
+    put(tail([after],"carry",1,["ptr-vals",Cha.vals()],["mut-tells (named 0) (κs .0) T.the-row",Cha.tells()],
       ["(κs .0) (qs .0) (a .0 .ptr .0) (a .0 .ptr .1) (a .0 .name) (a .0 .now) (a .1 .0) (are .1 .0) C Λ fm known-after"],
       ["goes-ref 𝓤 H A W 1 0 tt (plain (λ _. T.the-row))","goes-none 𝓤 H A W 1 (λ _. S.the-row) yes (λ κs x f. refl)"]))
 
@@ -559,7 +575,7 @@ def step():
     match="noDefault"
     for key,a in reversed(list(enumerate(ARMS))): match=f"armᴹ ({key} ∷ []) arm-{a.low} {par(match)}"
     body="\n".join(lemmas); nl=chr(10)
-    print(f"""-- `lent::step` meets its contract: a walk of its MIR. The switch goes by cases on the call: the tag is then a numeral, and only the arm that runs is walked. In an arm the borrow is opened for a copy of the record and closed at the same record.
+    put(f"""-- `lent::step` meets its contract: a walk of its MIR. The switch goes by cases on the call: the tag is then a numeral, and only the arm that runs is walked. In an arm the borrow is opened for a copy of the record and closed at the same record.
 -- A read's answer is had from the copy. For any other call the copy gives the change, and the reference goes on to `carry` at its own lifetime, which gives back what says its last value. The room goes on to `plan_slot` in the same way; where
 -- it is not passed, its last value is the one that it has. All that the proof knows of these functions is that they meet their contracts. Written by tools/gen_lent.py.
 {HEAD}
@@ -683,7 +699,8 @@ module _ {G} (W : Given 𝓤 H A) {AM} (κ κ-room : Lft) (q q-room : Share) (b 
         qed W (({TOK} ⊛ {TROOM} ⊛ ‵ ftrue) ∷ ‵ (owns (MutRef (named 0) κ T.the-row ∷ {Cal.row()} ∷ {Fra.row()} ∷ MutSlice (named 1) κ-room u8 ∷ []) (a call) (at call)) ∷ []) ∵ {walk}
 """)
     kp=lambda i,s="κs":f"({s}{path(i)})"; pa=lambda i:"a"+path(i)
-    print(tail(CS,"step",2,["ptr-vals",Cal.vals(),Fra.vals(),"slice-vals"],["mut-tells (named 0) (κs .0) T.the-row",Cal.tells(),Fra.tells(),"mut-slice-tells (named 1) (κs .1 .0) u8"],
+    put(tail(CS,"step",2,["ptr-vals",Cal.vals(),Fra.vals(),"slice-vals"],["mut-tells (named 0) (κs .0) T.the-row",Cal.tells(),Fra.tells(),"mut-slice-tells (named 1) (κs .1 .0) u8"],
       [kp(0),kp(1),kp(0,"qs"),kp(1,"qs"),f"({pa(0)} .ptr .0) ({pa(0)} .ptr .1) ({pa(0)} .name) ({pa(0)} .now) ({pa(2)}) ({pa(3)} .ptr .0) ({pa(3)} .ptr .1) ({pa(3)} .name) ({pa(3)} .now) (are{path(2)}) (are{path(3)} .0 .1) C Λ fm {known(CS)} ({pa(1)}) (are{path(1)})"],
       ["goes-gave-ref 𝓤 H A W 2 0 tt (plain (λ _. T.the-row))",f"goes-none 𝓤 H A W 2 (λ _. {Cal.row()}) yes (λ κs x f. refl)",f"goes-none 𝓤 H A W 2 (λ _. {Fra.row()}) yes (λ κs x f. refl)","goes-gave-slice 𝓤 H A W 2 1 tt (plain (λ _. u8))"]))
 {"carry":carry,"step":step}[FN]()
+print(lean("\n".join(TEXT)))
