@@ -136,14 +136,18 @@ for i,(n,k) in enumerate(params):
 w.emit("pass0 ! $\n"); w.to(begin+CELLS+DIES); w.emit("begun "+" ".join(f"l{i}" for i in range(N)))
 walk=w.text(); w.ind=10
 LIT="(tt, record { fits = lit< tt })"
+# of reset and lines: the reference in its parts, and the size compared first
+def parts(new): w.to(["c"]); w.emit("fsplit3 ! $ drop ! $ "); w.give(1,new)
+def compared(part,had,exits,rest):
+    def wrong():
+        w.assign("(of-opd ! (big-lit ! (record { fits = lit< tt })))",0,LIT); part(); leaves(w,[0,1,2,3],had,"returns-within ! Post refl",exits)
+    def right(): w.emit("skips ! $ exec ! C Λ En pieces.t-3 (atRet En Post) $ "+rest)
+    start=list(w.ctx); tests(w,w.load(2),3,wrong,right); return start,w.text()
 extra=""
 if FN=="hevrukan_reset":
     had=["obs","bor","t-c"]
-    def part(): w.to(["c"]); w.emit("fsplit3 ! $ drop ! $ "); w.give(1,["obs","bor"])
-    def wrong():
-        w.assign("(of-opd ! (big-lit ! (record { fits = lit< tt })))",0,LIT); part(); leaves(w,[0,1,2,3],had,"returns-within ! Post refl","exits h _ (reset-wrong h size t) (lit< tt)")
-    def right(): w.emit("skips ! $ exec ! C Λ En pieces.t-3 (atRet En Post) $ wiped t")
-    start=list(w.ctx); tests(w,w.load(2),3,wrong,right); first=w.text()
+    def part(): parts(["obs","bor"])
+    start,first=compared(part,had,"exits h _ (reset-wrong h size t) (lit< tt)","wiped t")
     # the reset record
     w.ctx=list(start); val={**VAL,3:"y3"}
     calls(w,"fresh","to-fresh","asked-fresh",[],lambda:[],"c","Controller","T.the-row","‵ ftrue","tt","tt","c ≡ resetState")
@@ -174,11 +178,8 @@ if FN=="hevrukan_reset":
 """
 elif FN=="hevrukan_lines":
     had=["t-c","res","shr"]
-    def part(): w.to(["c"]); w.emit("fsplit3 ! $ drop ! $ "); w.give(1,["res","shr"])
-    def wrong():
-        w.assign("(of-opd ! (big-lit ! (record { fits = lit< tt })))",0,LIT); part(); leaves(w,[0,1,2,3],had,"returns-within ! Post refl","exits _ (lines-wrong h size t) (lit< tt)")
-    def right(): w.emit("skips ! $ exec ! C Λ En pieces.t-3 (atRet En Post) $ read t")
-    start=list(w.ctx); tests(w,w.load(2),3,wrong,right); first=w.text()
+    def part(): parts(["res","shr"])
+    start,first=compared(part,had,"exits _ (lines-wrong h size t) (lit< tt)","read t")
     # the copy
     w.ctx=list(start); val={**VAL,3:"y3"}; part(); w.to(["shr","t-c"]); w.nl()
     w.emit("looks ! tt T.the-row (Is T.the-row) (shows 𝓤 H A T.the-row) (LL.vals T.the-type T′.the-laws) (LL.tells T.the-type T′.the-laws) (LL.copy T.the-type T′.the-copy 𝓤 H A W) h b o (λ q′ vs.\nspelt ! T.the-row (Is T.the-row) (shows 𝓤 H A T.the-row) (LL.vals T.the-type T′.the-laws) (LL.tells T.the-type T′.the-laws) q′ h vs b o $ move ! (1 ∷ []) $ "+Con.peeks("h","(mach h ∷ [])")+"(λ was. move ! (1 ∷ 0 ∷ []) $\n")
@@ -342,6 +343,7 @@ def tells(n,k):
     return f"{'shr' if k=='&[u8]' else 'mut'}-slice-tells (named {life[n]}) {kp} u8"
 KT=lambda C:" → ".join(f"Triple 𝓤 ({C} #{a}) ({TRIPLE(a)})" for a,_,_ in callees)
 KN=" ".join(f"known-{a}" for a,_,_ in callees)
+CITES=[f"(cited 𝓤 H ({cap(a)} 𝓤 H (𝓖 .A) (𝓜 .mem) (𝓡 .run)) 𝓜 𝓡 code.env #{a} {a}-def.routine code.calls-{k} ({a}-thm.met 𝓤 H 𝓜 𝓖 𝓡))" for a,_,k in callees]
 types={"hevrukan_reset":"","hevrukan_lines":"""abbrev byte : Ty
 byte = tyInt w8
 
@@ -482,24 +484,4 @@ mach = LL.val T.the-type T′.the-laws
         qed W (({" ⊛ ".join([tok(n) for n in REFS]+["‵ ftrue"])}) ∷ ‵ (owns ({" ∷ ".join([rowof(n,k) for n,k in params]+["[]"])}) a at) ∷ []) ∵
         {walk}
 
-module _ {G} (W : Given 𝓤 H A) {AM} where
-  walks : (C : Calls 𝓤 H) (Λ : Loops 𝓤 H) → FmC 𝓤 H (W .laws) C → {KT("C")} → Walks 𝓤 H A this.ended stayed (WpFn 𝓤 H C Λ code.function) (this.clauses 𝓤 H A at-mem run)
-  walks C Λ fm {KN} = walked 𝓤 H A this.ended stayed (this.clauses 𝓤 H A at-mem run) (WpFn 𝓤 H C Λ code.function)
-      (λ κs. {tup(vals(k) for n,k in params)}) (λ κs. {tup(tells(n,k) for n,k in params)})
-      (λ κs qs bounds a g are. via 𝓤 _ (fst∗ 𝓤 _ (emp 𝓤)) (walk 𝓤 H A W at-mem run {" ".join(wargs)} {" ".join(fargs)} C Λ fm {KN}))
-
-  goes : AllGo 𝓤 H A W {NL} (this.signature .params) (this.ended .kept) stayed
-  goes = {tup(go(n,k) for n,k in params)}
-
-meets : {G} → Given 𝓤 H A → {AM} (𝓣 : Tables 𝓤 H) → {KT("𝓣 .C")}
-    → Meets 𝓤 H A this.signature (WpFn 𝓤 H (𝓣 .C) (𝓣 .Λ) code.function) (this.spec 𝓤 H A at-mem run)
-meets 𝓤 H A W at-mem run 𝓣 {KN} = walk-meets 𝓤 H A this.ended stayed W (goes 𝓤 H A W at-mem run) (this.clauses 𝓤 H A at-mem run) (WpFn 𝓤 H (𝓣 .C) (𝓣 .Λ) code.function) (WpFn-mono 𝓤 H (W .laws) 𝓣 code.function)
-    (walks 𝓤 H A W at-mem run (𝓣 .C) (𝓣 .Λ) (fmOf 𝓤 H (W .laws) 𝓣) {KN})
-
-pub {name}-spec : {{M : Type 1}} → stated.statement M
-unfolding code.routine tablesOf
-{name}-spec 𝓤 H 𝓜 𝓖 𝓡 =
-    entered 𝓤 H (tripleOf 𝓤 H (𝓖 .A) this.signature (this.spec 𝓤 H (𝓖 .A) (𝓜 .mem) (𝓡 .run)))
-    (tables 𝓤 H 𝓜 𝓡 code.env .C) (tables 𝓤 H 𝓜 𝓡 code.env .Λ) #this code.function (code.unfolded 𝓤 H 𝓜 𝓡)
-    (meets 𝓤 H (𝓖 .A) (givenOf 𝓤 H 𝓜 𝓖) (𝓜 .mem) (𝓡 .run) (tablesOf 𝓤 H 𝓜 (tables 𝓤 H 𝓜 𝓡 code.env))
-    {(chr(10)+"    ").join(f"(cited 𝓤 H ({cap(a)} 𝓤 H (𝓖 .A) (𝓜 .mem) (𝓡 .run)) 𝓜 𝓡 code.env #{a} {a}-def.routine code.calls-{k} ({a}-thm.met 𝓤 H 𝓜 𝓖 𝓡))" for a,_,k in callees)})''')
+{met(name,NL,[vals(k) for n,k in params],[tells(n,k) for n,k in params],[" ".join(wargs)," ".join(fargs),"C Λ fm",KN],[go(n,k) for n,k in params],KT,KN,CITES)}''')

@@ -2,7 +2,7 @@
 """Write the walks of crate lent: usage: gen_lent.py carry|step > proofs/carry|step/Proof.antt, then rt fmt."""
 import os,re,sys
 sys.path.insert(0,os.path.dirname(os.path.abspath(__file__)))
-from walk import Walk,Decl,lst,tup,par,G,AM
+from walk import Walk,Decl,lst,tup,par,met,G,AM
 crate="lent"; modp=f"Rattle.{crate}.proofs"; spec=f"Rattle.{crate}.specs"; FN=sys.argv[1]
 Con=Decl("Controller","T","struct","controller",False)
 Cha=Decl("Change","S","struct","controller",False)
@@ -103,29 +103,7 @@ class Callee:
         return f"(cited 𝓤 H ({self.n} 𝓤 H (𝓖 .A) (𝓜 .mem) (𝓡 .run)) 𝓜 𝓡 code.env #{self.a} {self.a}-def.routine code.calls-{key} ({self.a}-thm.met 𝓤 H 𝓜 𝓖 𝓡))"
 def known(cs): return " ".join(f"known-{c.a}" for c in cs)
 def tail(cs,name,lives,vals,tells,wargs,goes):
-    """what follows the walk: that the function meets its contract"""
-    TS=lambda C:" → ".join(c.triple(C) for c in cs); K=known(cs); cites="\n    ".join(c.cited() for c in cs)
-    return f"""module _ {G} (W : Given 𝓤 H A) {AM} where
-  walks : (C : Calls 𝓤 H) (Λ : Loops 𝓤 H) → FmC 𝓤 H (W .laws) C → {TS("C")} → Walks 𝓤 H A this.ended stayed (WpFn 𝓤 H C Λ code.function) (this.clauses 𝓤 H A at-mem run)
-  walks C Λ fm {K} = walked 𝓤 H A this.ended stayed (this.clauses 𝓤 H A at-mem run) (WpFn 𝓤 H C Λ code.function)
-      (λ κs. {tup(vals)}) (λ κs. {tup(tells)})
-      (λ κs qs bounds a g are. via 𝓤 _ (fst∗ 𝓤 _ (emp 𝓤)) (walk 𝓤 H A W at-mem run {" ".join(wargs)}))
-
-  goes : AllGo 𝓤 H A W {lives} (this.signature .params) (this.ended .kept) stayed
-  goes = {tup(goes)}
-
-meets : {G} → Given 𝓤 H A → {AM} (𝓣 : Tables 𝓤 H) → {TS("𝓣 .C")}
-    → Meets 𝓤 H A this.signature (WpFn 𝓤 H (𝓣 .C) (𝓣 .Λ) code.function) (this.spec 𝓤 H A at-mem run)
-meets 𝓤 H A W at-mem run 𝓣 {K} = walk-meets 𝓤 H A this.ended stayed W (goes 𝓤 H A W at-mem run) (this.clauses 𝓤 H A at-mem run) (WpFn 𝓤 H (𝓣 .C) (𝓣 .Λ) code.function) (WpFn-mono 𝓤 H (W .laws) 𝓣 code.function)
-    (walks 𝓤 H A W at-mem run (𝓣 .C) (𝓣 .Λ) (fmOf 𝓤 H (W .laws) 𝓣) {K})
-
-pub {name}-spec : {{M : Type 1}} → stated.statement M
-unfolding code.routine tablesOf
-{name}-spec 𝓤 H 𝓜 𝓖 𝓡 =
-    entered 𝓤 H (tripleOf 𝓤 H (𝓖 .A) this.signature (this.spec 𝓤 H (𝓖 .A) (𝓜 .mem) (𝓡 .run)))
-    (tables 𝓤 H 𝓜 𝓡 code.env .C) (tables 𝓤 H 𝓜 𝓡 code.env .Λ) #this code.function (code.unfolded 𝓤 H 𝓜 𝓡)
-    (meets 𝓤 H (𝓖 .A) (givenOf 𝓤 H 𝓜 𝓖) (𝓜 .mem) (𝓡 .run) (tablesOf 𝓤 H 𝓜 (tables 𝓤 H 𝓜 𝓡 code.env))
-    {cites})"""
+    return met(name,lives,vals,tells,wargs,goes,lambda C:" → ".join(c.triple(C) for c in cs),known(cs),[c.cited() for c in cs])
 THIS=f"""use {modp}.{FN}.Key.{{name as #this}}
 use {modp}.{FN} as this
 use {modp}.{FN}.Statement as stated

@@ -370,6 +370,11 @@ pa=lambda i:"a"+path(i)
 ar=lambda i:"are"+path(i)
 for i in (0,1,2,3,4,5): wargs.append(f"({pa(i)} .ptr .0) ({pa(i)} .ptr .1) ({pa(i)} .name) ({pa(i)} .now)" if i in (0,1,2,4) else f"({pa(i)})")
 wargs+=[f"({ar(1)} .0 .1)",f"({ar(2)} .0 .1)",f"({ar(3)} .1)",f"({ar(4)} .0 .1)",f"({ar(5)})"]
+S="plain (λ _. u8)"
+VALS=["ptr-vals","slice-vals","slice-vals","uint-vals w64","slice-vals",Tur.vals()]
+TELLS=[f"mut-tells (named 0) ({kp(0)}) T.the-row",f"mut-slice-tells (named 1) ({kp(1)}) u8",f"shr-slice-tells (named 2) ({kp(2)}) u8","uint-tells w64",f"mut-slice-tells (named 3) ({kp(3)}) u8",Tur.tells()]
+GOES=["goes-ref 𝓤 H A W 4 0 tt (plain (λ _. T.the-row))",f"goes-gave-slice 𝓤 H A W 4 1 tt ({S})",f"goes-none-slice 𝓤 H A W 4 (2 ∷ []) tt ({S}) yes","goes-none 𝓤 H A W 4 (λ _. usize) yes (λ κs x f. refl)",f"goes-gave-slice 𝓤 H A W 4 3 tt ({S})","goes-none 𝓤 H A W 4 (λ _. U.the-row) yes (λ κs x f. refl)"]
+CITES=[f"(cited 𝓤 H ({n} 𝓤 H (𝓖 .A) (𝓜 .mem) (𝓡 .run)) 𝓜 𝓡 code.env #{a} {a}-def.routine code.calls-{k} ({a}-thm.met 𝓤 H 𝓜 𝓖 𝓡))" for n,a,k in [("Step","step","lent·step"),("Lines","lines","controller·Controller·lines"),("Answered","answered","replaying·turns·answered")]]
 KN="known known-lines known-answered"
 KT="Triple 𝓤 ({C} #step) (Step 𝓤 H A at-mem run) → Triple 𝓤 ({C} #lines) (Lines 𝓤 H A at-mem run) → Triple 𝓤 ({C} #answered) (Answered 𝓤 H A at-mem run)"
 print(f'''    walk : ent 𝓤 (onEntry 𝓤 H A this.signature {tup(kap(n) for n in REFS)} {tup(q(n) for n in REFS)} a at) (WpFn 𝓤 H C Λ code.function {FV} Post)
@@ -377,26 +382,4 @@ print(f'''    walk : ent 𝓤 (onEntry 𝓤 H A this.signature {tup(kap(n) for n
         qed W (({" ⊛ ".join([tok(n) for n in REFS]+["‵ ftrue"])}) ∷ ‵ (owns (MutRef (named 0) κ T.the-row ∷ MutSlice (named 1) κ-room u8 ∷ ShrSlice (named 2) κ-piece u8 ∷ usize ∷ MutSlice (named 3) κ-out u8 ∷ U.the-row ∷ []) a at) ∷ []) ∵
         {walk}
 
-module _ {G} (W : Given 𝓤 H A) {AM} where
-  walks : (C : Calls 𝓤 H) (Λ : Loops 𝓤 H) → FmC 𝓤 H (W .laws) C → {KT.replace("{C}","C")} → Walks 𝓤 H A this.ended stayed (WpFn 𝓤 H C Λ code.function) (this.clauses 𝓤 H A at-mem run)
-  walks C Λ fm {KN} = walked 𝓤 H A this.ended stayed (this.clauses 𝓤 H A at-mem run) (WpFn 𝓤 H C Λ code.function)
-      (λ κs. (ptr-vals, (slice-vals, (slice-vals, (uint-vals w64, (slice-vals, ({Tur.vals()}, tt))))))) (λ κs. (mut-tells (named 0) ({kp(0)}) T.the-row, (mut-slice-tells (named 1) ({kp(1)}) u8, (shr-slice-tells (named 2) ({kp(2)}) u8, (uint-tells w64, (mut-slice-tells (named 3) ({kp(3)}) u8, ({Tur.tells()}, tt)))))))
-      (λ κs qs bounds a g are. via 𝓤 _ (fst∗ 𝓤 _ (emp 𝓤)) (walk 𝓤 H A W at-mem run {" ".join(wargs)} C Λ fm {KN}))
-
-  goes : AllGo 𝓤 H A W 4 (this.signature .params) (this.ended .kept) stayed
-  goes = (goes-ref 𝓤 H A W 4 0 tt (plain (λ _. T.the-row)), (goes-gave-slice 𝓤 H A W 4 1 tt (plain (λ _. u8)), (goes-none-slice 𝓤 H A W 4 (2 ∷ []) tt (plain (λ _. u8)) yes, (goes-none 𝓤 H A W 4 (λ _. usize) yes (λ κs x f. refl), (goes-gave-slice 𝓤 H A W 4 3 tt (plain (λ _. u8)), (goes-none 𝓤 H A W 4 (λ _. U.the-row) yes (λ κs x f. refl), tt))))))
-
-meets : {G} → Given 𝓤 H A → {AM} (𝓣 : Tables 𝓤 H) → {KT.replace("{C}","𝓣 .C")}
-    → Meets 𝓤 H A this.signature (WpFn 𝓤 H (𝓣 .C) (𝓣 .Λ) code.function) (this.spec 𝓤 H A at-mem run)
-meets 𝓤 H A W at-mem run 𝓣 {KN} = walk-meets 𝓤 H A this.ended stayed W (goes 𝓤 H A W at-mem run) (this.clauses 𝓤 H A at-mem run) (WpFn 𝓤 H (𝓣 .C) (𝓣 .Λ) code.function) (WpFn-mono 𝓤 H (W .laws) 𝓣 code.function)
-    (walks 𝓤 H A W at-mem run (𝓣 .C) (𝓣 .Λ) (fmOf 𝓤 H (W .laws) 𝓣) {KN})
-
-pub line-in-place-spec : {{M : Type 1}} → stated.statement M
-unfolding code.routine tablesOf
-line-in-place-spec 𝓤 H 𝓜 𝓖 𝓡 =
-    entered 𝓤 H (tripleOf 𝓤 H (𝓖 .A) this.signature (this.spec 𝓤 H (𝓖 .A) (𝓜 .mem) (𝓡 .run)))
-    (tables 𝓤 H 𝓜 𝓡 code.env .C) (tables 𝓤 H 𝓜 𝓡 code.env .Λ) #this code.function (code.unfolded 𝓤 H 𝓜 𝓡)
-    (meets 𝓤 H (𝓖 .A) (givenOf 𝓤 H 𝓜 𝓖) (𝓜 .mem) (𝓡 .run) (tablesOf 𝓤 H 𝓜 (tables 𝓤 H 𝓜 𝓡 code.env))
-    (cited 𝓤 H (Step 𝓤 H (𝓖 .A) (𝓜 .mem) (𝓡 .run)) 𝓜 𝓡 code.env #step step-def.routine code.calls-lent·step (step-thm.met 𝓤 H 𝓜 𝓖 𝓡))
-    (cited 𝓤 H (Lines 𝓤 H (𝓖 .A) (𝓜 .mem) (𝓡 .run)) 𝓜 𝓡 code.env #lines lines-def.routine code.calls-controller·Controller·lines (lines-thm.met 𝓤 H 𝓜 𝓖 𝓡))
-    (cited 𝓤 H (Answered 𝓤 H (𝓖 .A) (𝓜 .mem) (𝓡 .run)) 𝓜 𝓡 code.env #answered answered-def.routine code.calls-replaying·turns·answered (answered-thm.met 𝓤 H 𝓜 𝓖 𝓡)))''')
+{met("line-in-place",4,VALS,TELLS,wargs+["C Λ fm",KN],GOES,lambda C:KT.replace("{C}",C),KN,CITES)}''')

@@ -102,6 +102,11 @@ pa=lambda i:"a"+path(i)
 ar=lambda i:"are"+path(i)
 for i in (0,1,2,3,4,5): wargs.append(f"({pa(i)} .ptr .0) ({pa(i)} .ptr .1) ({pa(i)} .name) ({pa(i)} .now)" if i in (1,2,4) else f"({pa(i)})")
 wargs+=[f"({ar(0)})",f"({ar(1)} .0 .1)",f"({ar(2)} .0 .1)",f"({ar(3)} .1)",f"({ar(4)} .0 .1)",f"({ar(5)})"]
+S="plain (λ _. u8)"
+VALS=[Con.vals(),"slice-vals","slice-vals","uint-vals w64","slice-vals",Tur.vals()]
+TELLS=[Con.tells(),f"mut-slice-tells (named 0) ({kp(0)}) u8",f"shr-slice-tells (named 1) ({kp(1)}) u8","uint-tells w64",f"mut-slice-tells (named 2) ({kp(2)}) u8",Tur.tells()]
+GOES=["goes-none 𝓤 H A W 3 (λ _. T.the-row) yes (λ κs x f. refl)",f"goes-gave-slice 𝓤 H A W 3 0 tt ({S})",f"goes-none-slice 𝓤 H A W 3 (1 ∷ []) tt ({S}) yes","goes-none 𝓤 H A W 3 (λ _. usize) yes (λ κs x f. refl)",f"goes-gave-slice 𝓤 H A W 3 2 tt ({S})","goes-none 𝓤 H A W 3 (λ _. U.the-row) yes (λ κs x f. refl)"]
+CITES=["(cited 𝓤 H (Lines 𝓤 H (𝓖 .A) (𝓜 .mem) (𝓡 .run)) 𝓜 𝓡 code.env #lines lines-def.routine code.calls-replaying·in-place·lines-in-place (lines-thm.met 𝓤 H 𝓜 𝓖 𝓡))"]
 KQ=tup(kap(n) for n in REFS); QQ=tup(q(n) for n in REFS)
 BOUND=f"(({KQ}, {QQ}, tt, a, at), tt)"
 print(f'''-- `replaying::in_place::lines_lent` meets its contract: a walk of its MIR. The record is copied into a local, which is lent to `lines_in_place` for a lifetime that is made for the call, and is back at the last record (`Local.antt`). The slices are passed on. Written by tools/gen_lines_lent.py.
@@ -261,24 +266,4 @@ module _ {G} (W : Given 𝓤 H A) {AM} ({" ".join(kap(n) for n in REFS)} : Lft) 
         qed W (({TOKS}) ∷ ‵ (owns (T.the-row ∷ MutSlice (named 0) κ-room u8 ∷ ShrSlice (named 1) κ-piece u8 ∷ usize ∷ MutSlice (named 2) κ-out u8 ∷ U.the-row ∷ []) a at) ∷ []) ∵
         {walk}
 
-module _ {G} (W : Given 𝓤 H A) {AM} where
-  walks : (C : Calls 𝓤 H) (Λ : Loops 𝓤 H) → FmC 𝓤 H (W .laws) C → Triple 𝓤 (C #lines) (Lines 𝓤 H A at-mem run) → Walks 𝓤 H A this.ended stayed (WpFn 𝓤 H C Λ code.function) (this.clauses 𝓤 H A at-mem run)
-  walks C Λ fm known = walked 𝓤 H A this.ended stayed (this.clauses 𝓤 H A at-mem run) (WpFn 𝓤 H C Λ code.function)
-      (λ κs. ({Con.vals()}, (slice-vals, (slice-vals, (uint-vals w64, (slice-vals, ({Tur.vals()}, tt))))))) (λ κs. ({Con.tells()}, (mut-slice-tells (named 0) ({kp(0)}) u8, (shr-slice-tells (named 1) ({kp(1)}) u8, (uint-tells w64, (mut-slice-tells (named 2) ({kp(2)}) u8, ({Tur.tells()}, tt)))))))
-      (λ κs qs bounds a g are. via 𝓤 _ (fst∗ 𝓤 _ (emp 𝓤)) (walk 𝓤 H A W at-mem run {" ".join(wargs)} C Λ fm known))
-
-  goes : AllGo 𝓤 H A W 3 (this.signature .params) (this.ended .kept) stayed
-  goes = (goes-none 𝓤 H A W 3 (λ _. T.the-row) yes (λ κs x f. refl), (goes-gave-slice 𝓤 H A W 3 0 tt (plain (λ _. u8)), (goes-none-slice 𝓤 H A W 3 (1 ∷ []) tt (plain (λ _. u8)) yes, (goes-none 𝓤 H A W 3 (λ _. usize) yes (λ κs x f. refl), (goes-gave-slice 𝓤 H A W 3 2 tt (plain (λ _. u8)), (goes-none 𝓤 H A W 3 (λ _. U.the-row) yes (λ κs x f. refl), tt))))))
-
-meets : {G} → Given 𝓤 H A → {AM} (𝓣 : Tables 𝓤 H) → Triple 𝓤 (𝓣 .C #lines) (Lines 𝓤 H A at-mem run)
-    → Meets 𝓤 H A this.signature (WpFn 𝓤 H (𝓣 .C) (𝓣 .Λ) code.function) (this.spec 𝓤 H A at-mem run)
-meets 𝓤 H A W at-mem run 𝓣 known = walk-meets 𝓤 H A this.ended stayed W (goes 𝓤 H A W at-mem run) (this.clauses 𝓤 H A at-mem run) (WpFn 𝓤 H (𝓣 .C) (𝓣 .Λ) code.function) (WpFn-mono 𝓤 H (W .laws) 𝓣 code.function)
-    (walks 𝓤 H A W at-mem run (𝓣 .C) (𝓣 .Λ) (fmOf 𝓤 H (W .laws) 𝓣) known)
-
-pub lines-lent-spec : {{M : Type 1}} → stated.statement M
-unfolding code.routine tablesOf
-lines-lent-spec 𝓤 H 𝓜 𝓖 𝓡 =
-    entered 𝓤 H (tripleOf 𝓤 H (𝓖 .A) this.signature (this.spec 𝓤 H (𝓖 .A) (𝓜 .mem) (𝓡 .run)))
-    (tables 𝓤 H 𝓜 𝓡 code.env .C) (tables 𝓤 H 𝓜 𝓡 code.env .Λ) #this code.function (code.unfolded 𝓤 H 𝓜 𝓡)
-    (meets 𝓤 H (𝓖 .A) (givenOf 𝓤 H 𝓜 𝓖) (𝓜 .mem) (𝓡 .run) (tablesOf 𝓤 H 𝓜 (tables 𝓤 H 𝓜 𝓡 code.env))
-    (cited 𝓤 H (Lines 𝓤 H (𝓖 .A) (𝓜 .mem) (𝓡 .run)) 𝓜 𝓡 code.env #lines lines-def.routine code.calls-replaying·in-place·lines-in-place (lines-thm.met 𝓤 H 𝓜 𝓖 𝓡)))''')
+{met("lines-lent",3,VALS,TELLS,wargs+["C Λ fm known"],GOES,lambda C:f"Triple 𝓤 ({C} #lines) (Lines 𝓤 H A at-mem run)","known",CITES)}''')
