@@ -1,2 +1,2 @@
+pub mod Idents
 pub mod Search
-pub mod Walk

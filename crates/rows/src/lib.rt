@@ -1,11 +1,16 @@
 // The searches over the sixteen buffers' contents: which buffer carries an identifier, and which have one at all.
 // Every function answers for every mask and every identifier; 16 stands for no buffer.
-// A walk halves what is left of its mask, so that it ends after the highest buffer in it: the compiler unrolls a walk of
-// sixteen turns fully, which is slow.
+// The identifiers are taken out one by one, at places that the compiler knows: it then reads these sixteen bytes alone, where
+// an index that it doesn't know would have it copy all contents first.
 ghost use mathlib.Core.Path.{_≡_};
+ghost use lib.Dec.{eqb};
 ghost use lib.ListN.{getD};
+ghost use Rattle.masks.specs.Bits.{maskOf};
 ghost use Rattle.rows.specs.Search.{lowestWith, highestWith, namedOf};
+ghost use Rattle.rows.specs.Idents.{identsOf};
 use contents::Contents;
+use masks::highest_of;
+use masks::lowest_of;
 use masks::with;
 
 // The identifier of a buffer.
@@ -15,61 +20,63 @@ fn ident(b: Contents) -> u8
     b.bytes[0]
 }
 
+// The sixteen identifiers.
+fn idents(rows: [Contents; 16]) -> [u8; 16]
+    ensures { λ r. ⌜ r ≡ identsOf rows ⌝ }
+{
+    [
+        ident(rows[0]),
+        ident(rows[1]),
+        ident(rows[2]),
+        ident(rows[3]),
+        ident(rows[4]),
+        ident(rows[5]),
+        ident(rows[6]),
+        ident(rows[7]),
+        ident(rows[8]),
+        ident(rows[9]),
+        ident(rows[10]),
+        ident(rows[11]),
+        ident(rows[12]),
+        ident(rows[13]),
+        ident(rows[14]),
+        ident(rows[15]),
+    ]
+}
+
+// The mask of the identifiers that are i.
+fn equal_to(idents: [u8; 16], i: u8) -> u16
+    ensures { λ r. ⌜ r ≡ maskOf (λ n. eqb (getD idents n 0) i) ⌝ }
+{
+    let mut m: u16 = 0;
+    let mut k: u8 = 0;
+    while k < 16 {
+        let n = k as usize;
+        if idents[n] == i {
+            m = with(m, k);
+        }
+        k += 1;
+    }
+    m
+}
+
 // The lowest buffer of the mask that carries identifier i, or 16.
 pub fn lowest_with(rows: [Contents; 16], m: u16, i: u8) -> u8
     ensures { λ r. ⌜ r ≡ lowestWith rows m i ⌝ }
 {
-    let mut rest = m;
-    let mut n: u8 = 0;
-    while rest != 0 {
-        if rest % 2 == 1 {
-            let b = rows[n as usize];
-            if ident(b) == i {
-                return n;
-            }
-        }
-        rest = rest / 2;
-        n += 1;
-    }
-    16
+    lowest_of(m & equal_to(idents(rows), i))
 }
 
 // The highest buffer of the mask that carries identifier i, or 16.
 pub fn highest_with(rows: [Contents; 16], m: u16, i: u8) -> u8
     ensures { λ r. ⌜ r ≡ highestWith rows m i ⌝ }
 {
-    let mut found: u8 = 16;
-    let mut rest = m;
-    let mut k: u8 = 0;
-    while rest != 0 {
-        if rest % 2 == 1 {
-            let b = rows[k as usize];
-            if ident(b) == i {
-                found = k;
-            }
-        }
-        rest = rest / 2;
-        k += 1;
-    }
-    found
+    highest_of(m & equal_to(idents(rows), i))
 }
 
 // The mask of the buffers of a mask that have an identifier.
 pub fn named(rows: [Contents; 16], of: u16) -> u16
     ensures { λ r. ⌜ r ≡ namedOf rows of ⌝ }
 {
-    let mut m: u16 = 0;
-    let mut rest = of;
-    let mut next: u8 = 0;
-    while rest != 0 {
-        if rest % 2 == 1 {
-            let b = rows[next as usize];
-            if ident(b) != 0 {
-                m = with(m, next);
-            }
-        }
-        rest = rest / 2;
-        next += 1;
-    }
-    m
+    of & !equal_to(idents(rows), 0)
 }
