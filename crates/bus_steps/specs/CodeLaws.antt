@@ -4,7 +4,7 @@ use Prim.Native.Nat.{ℕ, _<_}
 use mathlib.Core.Bool.{Bool, true, false, _&&_, _||_, not}
 use mathlib.Core.List.{List, [], _∷_}
 use lib.Dec.{eqb, ltb, leb}
-use Rattle.masks.specs.Pick.{pick, pick-keeps}
+use Rattle.masks.specs.Pick.{pick, pick-false, pick-keeps}
 use Rattle.masks.specs.Bits.{bitOf, maskOf}
 use Rattle.masks.specs.Laws.{bit-mask, same-mask}
 use Rattle.contents.specs.Bytes.{Head}
@@ -44,6 +44,11 @@ synced-ready k c hs m e = simp (same-mask (armsOf c m) (arms c hs) (λ n h. arms
 pub due-ready : (c : Control) (hs : List Head) (m : ℕ) → m ≡ maskOf (isReady c hs) → dueOf c m ≡ dueSync c hs
 unfolding dueOf dueSync
 due-ready c hs m e = simp (synced-ready (dueKind c) c hs m e)
+
+-- out of initialization and awake, a bus step is the plan given last
+pub bus-awake : (c : Control) (p q : Plan) → c .mode .init ≡ false → c .mode .slpak ≡ false → onBus c p q ≡ q
+unfolding onBus
+bus-awake c p q i s = pick-false (c .mode .init) (plain c Ignored) (pick (c .mode .slpak) p q) i ∙ pick-false (c .mode .slpak) p q s
 
 -- ---- the plans of the bus are simple
 

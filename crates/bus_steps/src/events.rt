@@ -16,7 +16,7 @@ use rules::bits::SYNNIF;
 use rules::bits::WAKEIF;
 use rules::bits::XSYNIF;
 
-pub(crate) fn raise_gisr(c: Control, b: u8) -> Control
+fn raise_gisr(c: Control, b: u8) -> Control
     ensures { λ r. ⌜ r ≡ raiseGisr c b ⌝ }
 {
     let mut next = c;

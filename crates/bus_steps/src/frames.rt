@@ -1,49 +1,49 @@
-// Frames.
+// Frames. What becomes of a frame is judged first, and what that marks in the control state is then written part by part: where each
+// outcome has a next state of its own, the compiler copies the whole state once more wherever two of them meet.
 ghost use mathlib.Core.Path.{_≡_};
-ghost use Rattle.rules.specs.Bus.{toBuffer, fifoTakes, withEntry, toFifo, raiseLast, found, judged};
-ghost use Prim.Native.Nat.{max, _<_};
-ghost use Rattle.bus_steps.specs.Code.{rulingOf, flagged};
-use crate::events::raise_gisr;
-use crate::ruling;
-use modes::with_fifo;
+ghost use Prim.Native.Nat.{ℕ, max, _<_};
+ghost use Rattle.rules.specs.Rules.{wakes};
+ghost use Rattle.rules.specs.Bus.{toBuffer, fifoTakes, withEntry, toFifo, raiseLast, judged};
+ghost use Rattle.bus_steps.specs.Code.{rulingOf};
+ghost use Rattle.bus_steps.specs.Marks.{verdictFor, risen, entered, base, marked, marksOf, ruledBy};
+use modes::wake;
 use rules::Answer;
 use rules::Control;
 use rules::Fifo;
-use rules::Ruling;
 use rules::Verdict;
 use rules::bits::ERRIF;
 use rules::bits::OVRNIF;
+use rules::bits::WAKEIF;
 use status::kinds::is_locked;
 use status::kinds::place_after;
+
+// What becomes of a frame: the answers that it can have, with their buffers.
+pub(crate) enum Outcome {
+    Ignored,
+    Woke,
+    Bad,
+    HeldOff(u8),
+    Stored(u8),
+    Unmatched,
+    Overrun,
+    Queued(u8),
+}
+
+// What it marks: whether the last identifier rises to the frame's, whose IFLG is set, which flags of $07 are set,
+// whether the FIFO has one more entry, and whether the module wakes.
+struct Marks {
+    raises: bool,
+    iflg: u16,
+    gisr: u8,
+    queues: bool,
+    wakes: bool,
+}
 
 // The larger of two identifiers.
 fn larger(a: u8, b: u8) -> u8
     ensures { λ r. ⌜ r ≡ max a b ⌝ }
 {
     if a < b { b } else { a }
-}
-
-// IFLG of buffer n set.
-fn flagged(c: Control, n: u8) -> Control
-    ensures { λ r. ⌜ r ≡ flagged c n ⌝ }
-{
-    let mut next = c;
-    let iflg = masks::put(c.buffers.iflg, n, true);
-    next.buffers.iflg = iflg;
-    next
-}
-
-// A frame for dedicated receive buffer n.
-fn to_buffer(c: Control, n: u8) -> Ruling
-    ensures { λ r. ⌜ r ≡ rulingOf (toBuffer c n) ⌝ }
-{
-    if is_locked(c, n) {
-        return ruling(c, Answer::HeldOff(n));
-    }
-    Ruling {
-        next: flagged(c, n),
-        verdict: Verdict::Store(n, Answer::Stored(n)),
-    }
 }
 
 // FSIZ is not 0, and the filters let the identifier in.
@@ -53,6 +53,110 @@ fn fifo_takes(c: Control, i: u8) -> bool
     let accept = c.config.accept;
     let reject = c.config.reject;
     0 < c.config.fsiz && accept.matches(i) && !reject.matches(i)
+}
+
+// A frame for dedicated receive buffer n.
+fn to_buffer(c: Control, n: u8) -> Outcome
+    ensures { λ r. ⌜ ((i : ℕ) → ruledBy c i r ≡ rulingOf (toBuffer (raiseLast c i) n)) ⌝ }
+{
+    if is_locked(c, n) {
+        return Outcome::HeldOff(n);
+    }
+    Outcome::Stored(n)
+}
+
+// A frame with no dedicated buffer.
+fn to_fifo(c: Control, i: u8) -> Outcome
+    ensures { λ r. ⌜ ruledBy c i r ≡ rulingOf (toFifo (raiseLast c i) i) ⌝ }
+{
+    if !fifo_takes(c, i) {
+        return Outcome::Unmatched;
+    }
+    if c.config.fsiz <= c.fifo.count {
+        return Outcome::Overrun;
+    }
+    let n = c.fifo.next;
+    Outcome::Queued(n)
+}
+
+// A frame that is awaited or not.
+fn judged(c: Control, good: bool, i: u8, n: u8) -> Outcome
+    ensures { λ r. ⌜ ruledBy c i r ≡ rulingOf (judged c good i n) ⌝ }
+{
+    if !c.mode.synced {
+        return Outcome::Ignored;
+    }
+    if !good || i == 0 {
+        return Outcome::Bad;
+    }
+    if n < 16 {
+        return to_buffer(c, n);
+    }
+    to_fifo(c, i)
+}
+
+// What becomes of a frame with identifier i, whose buffer is n, 16 for none.
+pub(crate) fn outcome_of(c: Control, good: bool, i: u8, n: u8) -> Outcome
+    ensures { λ r. ⌜ ruledBy c i r ≡ rulingOf (wakes c (judged c good i n)) ⌝ }
+{
+    if c.mode.init {
+        return Outcome::Ignored;
+    }
+    if c.mode.slpak {
+        return Outcome::Woke;
+    }
+    judged(c, good, i, n)
+}
+
+// The verdict that an outcome stands for.
+pub(crate) fn verdict_for(o: Outcome) -> Verdict
+    ensures { λ r. ⌜ r ≡ verdictFor o ⌝ }
+{
+    match o {
+        Outcome::Ignored => Verdict::Say(Answer::Ignored),
+        Outcome::Woke => Verdict::Say(Answer::Woke),
+        Outcome::Bad => Verdict::Say(Answer::BadFrame),
+        Outcome::HeldOff(n) => Verdict::Say(Answer::HeldOff(n)),
+        Outcome::Stored(n) => Verdict::Store(n, Answer::Stored(n)),
+        Outcome::Unmatched => Verdict::Say(Answer::Unmatched),
+        Outcome::Overrun => Verdict::Say(Answer::Overrun),
+        Outcome::Queued(n) => Verdict::Store(n, Answer::Queued(n)),
+    }
+}
+
+fn marking(raises: bool, iflg: u16, gisr: u8, queues: bool, wakes: bool) -> Marks
+    ensures { λ r. ⌜ r ≡ record { raises = raises; iflg = iflg; gisr = gisr; queues = queues; wakes = wakes } ⌝ }
+{
+    Marks {
+        raises,
+        iflg,
+        gisr,
+        queues,
+        wakes,
+    }
+}
+
+// What an outcome marks.
+fn marks_of(o: Outcome) -> Marks
+    ensures { λ r. ⌜ r ≡ marksOf o ⌝ }
+{
+    match o {
+        Outcome::Ignored => marking(false, 0, 0, false, false),
+        Outcome::Woke => marking(false, 0, WAKEIF, false, true),
+        Outcome::Bad => marking(false, 0, ERRIF, false, false),
+        Outcome::HeldOff(_) => marking(true, 0, 0, false, false),
+        Outcome::Stored(n) => marking(true, masks::one(n), 0, false, false),
+        Outcome::Unmatched => marking(true, 0, 0, false, false),
+        Outcome::Overrun => marking(true, 0, OVRNIF, false, false),
+        Outcome::Queued(_) => marking(true, 0, 0, true, false),
+    }
+}
+
+// The last identifier after a frame with identifier i.
+fn risen(last: u8, raises: bool, i: u8) -> u8
+    ensures { λ r. ⌜ r ≡ risen last raises i ⌝ }
+{
+    if raises { larger(last, i) } else { last }
 }
 
 // The FIFO, which has room, with one more entry.
@@ -68,53 +172,40 @@ fn with_entry(c: Control) -> Fifo
     f
 }
 
-// A frame with no dedicated buffer.
-fn to_fifo(c: Control, i: u8) -> Ruling
-    ensures { λ r. ⌜ r ≡ rulingOf (toFifo c i) ⌝ }
+// The FIFO with one more entry, if it has room.
+fn entered(c: Control, queues: bool) -> Fifo
+    ensures { λ r. ⌜ r ≡ entered c queues ⌝ }
 {
-    if !fifo_takes(c, i) {
-        return ruling(c, Answer::Unmatched);
+    if queues && c.fifo.count < c.config.fsiz {
+        return with_entry(c);
     }
-    if c.config.fsiz <= c.fifo.count {
-        return ruling(raise_gisr(c, OVRNIF), Answer::Overrun);
-    }
-    let n = c.fifo.next;
-    let f = with_entry(c);
-    Ruling {
-        next: with_fifo(c, f),
-        verdict: Verdict::Store(n, Answer::Queued(n)),
-    }
+    c.fifo
 }
 
-fn raise_last(c: Control, i: u8) -> Control
-    ensures { λ r. ⌜ r ≡ raiseLast c i ⌝ }
+// The control state with its marks, but for waking.
+fn with_marks(c: Control, m: Marks, i: u8) -> Control
+    ensures { λ r. ⌜ r ≡ base c m i ⌝ }
 {
+    let last = risen(c.mode.last, m.raises, i);
+    let gisr = c.events.gisr | m.gisr;
+    let iflg = c.buffers.iflg | m.iflg;
+    let fifo = entered(c, m.queues);
     let mut next = c;
-    let last = larger(c.mode.last, i);
     next.mode.last = last;
+    next.events.gisr = gisr;
+    next.buffers.iflg = iflg;
+    next.fifo = fifo;
     next
 }
 
-// A sound frame with identifier i, whose buffer is n, 16 for none.
-fn found(c: Control, i: u8, n: u8) -> Ruling
-    ensures { λ r. ⌜ r ≡ rulingOf (found c i n) ⌝ }
+// The control state after a frame with identifier i.
+pub(crate) fn marked(c: Control, o: Outcome, i: u8) -> Control
+    ensures { λ r. ⌜ r ≡ marked c (marksOf o) i ⌝ }
 {
-    let raised = raise_last(c, i);
-    if n < 16 {
-        return to_buffer(raised, n);
+    let m = marks_of(o);
+    let next = with_marks(c, m, i);
+    if m.wakes {
+        return wake(next);
     }
-    to_fifo(raised, i)
-}
-
-// A frame that is awaited or not.
-pub(crate) fn judged(c: Control, good: bool, i: u8, n: u8) -> Ruling
-    ensures { λ r. ⌜ r ≡ rulingOf (judged c good i n) ⌝ }
-{
-    if !c.mode.synced {
-        return ruling(c, Answer::Ignored);
-    }
-    if !good || i == 0 {
-        return ruling(raise_gisr(c, ERRIF), Answer::BadFrame);
-    }
-    found(c, i, n)
+    next
 }

@@ -12,7 +12,9 @@ ghost use Rattle.bus_steps.specs.Code.{rulingOf, syncedOf, dueOf};
 ghost use Rattle.rules.specs.declared.Answer.the-variants.{Ok};
 use crate::events::faulted;
 use crate::events::woken;
-use crate::frames::judged;
+use crate::frames::marked;
+use crate::frames::outcome_of;
+use crate::frames::verdict_for;
 use crate::slots::slot_for;
 use crate::syncs::due_kind;
 use crate::syncs::synced;
@@ -34,17 +36,15 @@ pub(crate) fn ruling(next: Control, answer: Answer) -> Ruling
     }
 }
 
-// A frame with identifier i, whose buffer is n.
+// A frame with identifier i, whose buffer is n, 16 for none.
 pub fn on_frame(c: Control, good: bool, i: u8, n: u8) -> Ruling
     ensures { λ r. ⌜ r ≡ rulingOf (wakes c (judged c good i n)) ⌝ }
 {
-    if c.mode.init {
-        return ruling(c, Answer::Ignored);
+    let o = outcome_of(c, good, i, n);
+    Ruling {
+        next: marked(c, o, i),
+        verdict: verdict_for(o),
     }
-    if c.mode.slpak {
-        return ruling(woken(c), Answer::Woke);
-    }
-    judged(c, good, i, n)
 }
 
 pub fn on_slot(c: Control, i: u8, n: u8) -> Ruling

@@ -1,41 +1,20 @@
-use Rattle.masks.specs.Pick.{pick-true, pick-false}
-use Rattle.rules.specs.Rules.{onBus}
+use mathlib.Core.Path.{_∙_}
 use borrow.Author.Needs.{needs}
 use Rattle.bus_steps.proofs.on_frame.Statement.{statement}
 use Rattle.bus_steps.proofs.on_frame.Tie as tie
 
-ruling-requires : tie.Need-ruling-requires
-ruling-requires c κs = search needs
+outcome-of-requires : tie.Need-outcome-of-requires
+outcome-of-requires c κs = search needs
+
+marked-requires : tie.Need-marked-requires
+marked-requires c κs = search needs
+
+verdict-for-requires : tie.Need-verdict-for-requires
+verdict-for-requires c κs = search needs
 
 returns : tie.Need-returns
-unfolding onBus
-returns c = simp (pick-true, ← (c .ruling .ensures), c .before .if1 .taken)
-
-woken-requires : tie.Need-woken-requires
-woken-requires c κs = search needs
-
-ruling-requires-2 : tie.Need-ruling-requires-2
-ruling-requires-2 c κs = search needs
-
-returns-2 : tie.Need-returns-2
-unfolding onBus
-returns-2 c = simp (pick-true, pick-false, ← (c .ruling2 .ensures), ← (c .before .woken .ensures), c .before .before .if2 .taken, c .before .before .before .if1 .left)
-
-judged-requires : tie.Need-judged-requires
-judged-requires c κs = search needs
-
-returns-3 : tie.Need-returns-3
-unfolding onBus
-returns-3 c = simp (pick-false, ← (c .judged .ensures), c .before .if2 .left, c .before .before .if1 .left)
+returns c = simp (c .verdict-for .ensures, c .before .marked .ensures) (c .before .before .outcome-of .ensures)
 
 pub on-frame-spec : {M : Type 1} → statement M
 on-frame-spec =
-    tie.close
-    (tie.spec
-    ruling-requires
-    returns
-    woken-requires
-    ruling-requires-2
-    returns-2
-    judged-requires
-    returns-3)
+    tie.close (tie.spec outcome-of-requires marked-requires verdict-for-requires returns)

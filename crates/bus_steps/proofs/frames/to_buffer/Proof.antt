@@ -1,5 +1,7 @@
+use mathlib.Core.Path.{_∙_}
 use Rattle.masks.specs.Pick.{pick-true, pick-false}
-use Rattle.rules.specs.Bus.{toBuffer}
+use Rattle.rules.specs.Bus.{toBuffer, raiseLast}
+use Rattle.bus_steps.specs.Marks.{held-ruled, stored-ruled, locked-raised}
 use borrow.Author.Needs.{needs}
 use Rattle.bus_steps.proofs.frames.to_buffer.Statement.{statement}
 use Rattle.bus_steps.proofs.frames.to_buffer.Tie as tie
@@ -7,20 +9,19 @@ use Rattle.bus_steps.proofs.frames.to_buffer.Tie as tie
 is-locked-requires : tie.Need-is-locked-requires
 is-locked-requires c κs = search needs
 
-ruling-requires : tie.Need-ruling-requires
-ruling-requires c κs = search needs
-
 returns : tie.Need-returns
 unfolding toBuffer
-returns c = simp (pick-true, ← (c .ruling .ensures), c .before .if1 .taken, ← (c .before .before .is-locked .ensures))
-
-flagged-requires : tie.Need-flagged-requires
-flagged-requires c κs = search needs
+returns c =
+    λ i. let a = c .before .before .args in
+    held-ruled (a .c) i (a .n) ∙ simp (pick-true, locked-raised (a .c) i (a .n), ← (c .before .is-locked .ensures), c .if1 .taken)
 
 returns-2 : tie.Need-returns-2
-unfolding toBuffer
-returns-2 c = simp (pick-false, ← (c .flagged .ensures), c .before .if1 .left, ← (c .before .before .is-locked .ensures))
+unfolding toBuffer raiseLast
+returns-2 c =
+    λ i. let a = c .before .before .args in
+    -- iflg is the third part of the buffers, and these the seventh of the control state
+    let buffers = c .before .before .good .0 .1 .1 .1 .1 .1 .1 .1 .1 .0 in
+    stored-ruled (a .c) i (a .n) (buffers .1 .1 .1 .1 .0 .1) ∙ simp (pick-false, locked-raised (a .c) i (a .n), ← (c .before .is-locked .ensures), c .if1 .left)
 
 pub to-buffer-spec : {M : Type 1} → statement M
-to-buffer-spec =
-    tie.close (tie.spec is-locked-requires ruling-requires returns flagged-requires returns-2)
+to-buffer-spec = tie.close (tie.spec is-locked-requires returns returns-2)
