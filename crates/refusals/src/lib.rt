@@ -1,8 +1,13 @@
-// The refusals of register calls: each as a test, and the lowest number that applies.
+// The refusals of register calls: each as a test, and the lowest number that applies. Those of the control registers, which test
+// code writes most, are judged in one pass.
+ghost use Prim.Native.Nat.{_%_};
+ghost use mathlib.Core.Bool.{_&&_};
 ghost use mathlib.Core.Path.{_≡_};
+ghost use lib.Dec.{eqb};
 ghost use Rattle.masks.specs.Bits.{someOf};
 ghost use Rattle.rules.specs.Registers.{between};
-ghost use Rattle.rules.specs.Refusals.{refuses2, refuses3, onlyInInit, refuses4, refuses5, refuses6, movedByFsiz, movedByCfg, refuses7, refuses8, newLock, notOldest, refuses9, noLockLeft, refuses10, readRefusal, writeRefusal, lateRefusal};
+ghost use Rattle.rules.specs.Refusals.{refuses2, refuses3, onlyInInit, refuses4, refuses5, refuses6, movedByFsiz, refuses8, readRefusal, writeRefusal};
+ghost use Rattle.refusals.specs.Code.{lockRefusal, controlRefusal, lowRefusal};
 use rules::Control;
 use rules::bits::INITRQ;
 use rules::bits::LOCK;
@@ -76,18 +81,11 @@ fn moved_by_fsiz(c: Control, s: u8) -> bool
     masks::any(locked_mask(c) & !c.buffers.cfg & (now & !then | then & !now))
 }
 
-// Locked buffer n changes its kind by CFG.
-fn moved_by_cfg(c: Control, n: u8, v: u8) -> bool
-    ensures { λ r. ⌜ r ≡ movedByCfg c n v ⌝ }
-{
-    is_locked(c, n) && cfg_after(c, n, v) != is_transmit(c, n)
-}
-
-// 7: the kind of a locked buffer changes.
+// 7, by FSIZ: the kind of a locked buffer changes.
 fn refuses7(c: Control, a: u8, v: u8) -> bool
-    ensures { λ r. ⌜ r ≡ refuses7 c a v ⌝ }
+    ensures { λ r. ⌜ r ≡ (eqb a 0x01 && someOf (movedByFsiz c (v % 32)) 16) ⌝ }
 {
-    a == 0x01 && moved_by_fsiz(c, v % 32) || 0x50 <= a && moved_by_cfg(c, a - 0x50, v)
+    a == 0x01 && moved_by_fsiz(c, v % 32)
 }
 
 // 8: leaving initialization with an unlawful layout.
@@ -97,44 +95,35 @@ fn refuses8(c: Control, a: u8, v: u8) -> bool
     a == 0x00 && c.mode.init && v / INITRQ % 2 != 1 && !is_lawful(c)
 }
 
-fn new_lock(c: Control, n: u8, v: u8) -> bool
-    ensures { λ r. ⌜ r ≡ newLock c n v ⌝ }
+// Where buffer n, which is not locked, is locked, and its CFG is then cfg: 9 for a FIFO buffer that isn't the oldest entry, 10
+// where its kind has holder and contender, 0 for none.
+fn lock_refusal(c: Control, n: u8, cfg: bool) -> u8
+    ensures { λ r. ⌜ r ≡ lockRefusal c n cfg ⌝ }
 {
-    v / LOCK % 2 == 1 && !is_locked(c, n)
-}
-
-fn not_oldest(c: Control, n: u8, v: u8) -> bool
-    ensures { λ r. ⌜ r ≡ notOldest c n v ⌝ }
-{
-    new_lock(c, n, v) && !cfg_after(c, n, v) && n < c.config.fsiz && !is_oldest(c, n)
-}
-
-// 9: a new lock on a FIFO buffer that isn't the oldest entry.
-fn refuses9(c: Control, a: u8, v: u8) -> bool
-    ensures { λ r. ⌜ r ≡ refuses9 c a v ⌝ }
-{
-    0x50 <= a && not_oldest(c, a - 0x50, v)
-}
-
-fn no_lock_left(c: Control, n: u8, v: u8) -> bool
-    ensures { λ r. ⌜ r ≡ noLockLeft c n v ⌝ }
-{
-    if !new_lock(c, n, v) {
-        return false;
-    }
-    if cfg_after(c, n, v) {
+    if cfg {
         let tx = c.transmit;
-        return tx.is_full();
+        return if tx.is_full() { 10 } else { 0 };
+    }
+    if n < c.config.fsiz {
+        return if is_oldest(c, n) { 0 } else { 9 };
     }
     let rx = c.receive;
-    c.config.fsiz <= n && rx.is_full()
+    if rx.is_full() { 10 } else { 0 }
 }
 
-// 10: a new lock where the kind has holder and contender.
-fn refuses10(c: Control, a: u8, v: u8) -> bool
-    ensures { λ r. ⌜ r ≡ refuses10 c a v ⌝ }
+// The refusals that a write of buffer n's control register can have once the module is awake: 7 if it is locked and its kind
+// changes, 9 or 10 if it is not and is to be locked, 0 for none.
+fn control_refusal(c: Control, n: u8, v: u8) -> u8
+    ensures { λ r. ⌜ r ≡ controlRefusal c n v ⌝ }
 {
-    0x50 <= a && no_lock_left(c, a - 0x50, v)
+    let cfg = cfg_after(c, n, v);
+    if is_locked(c, n) {
+        return if cfg != is_transmit(c, n) { 7 } else { 0 };
+    }
+    if v / LOCK % 2 == 1 {
+        return lock_refusal(c, n, cfg);
+    }
+    0
 }
 
 // The refusal of a register read, 0 for none.
@@ -150,9 +139,9 @@ pub fn read_refusal(c: Control, a: u8) -> u8
     0
 }
 
-// Refusals 6 to 10 of a write, 0 for none.
-fn late_refusal(c: Control, a: u8, v: u8) -> u8
-    ensures { λ r. ⌜ r ≡ lateRefusal c a v ⌝ }
+// Refusals 6 to 8 of a write below $50, 0 for none.
+fn low_refusal(c: Control, a: u8, v: u8) -> u8
+    ensures { λ r. ⌜ r ≡ lowRefusal c a v ⌝ }
 {
     if refuses6(a, v) {
         return 6;
@@ -162,12 +151,6 @@ fn late_refusal(c: Control, a: u8, v: u8) -> u8
     }
     if refuses8(c, a, v) {
         return 8;
-    }
-    if refuses9(c, a, v) {
-        return 9;
-    }
-    if refuses10(c, a, v) {
-        return 10;
     }
     0
 }
@@ -182,6 +165,9 @@ pub fn write_refusal(c: Control, a: u8, v: u8) -> u8
     if refuses2(c, a) {
         return 2;
     }
+    if 0x50 <= a {
+        return control_refusal(c, a - 0x50, v);
+    }
     if refuses3(a) {
         return 3;
     }
@@ -191,5 +177,5 @@ pub fn write_refusal(c: Control, a: u8, v: u8) -> u8
     if refuses5(c, a) {
         return 5;
     }
-    late_refusal(c, a, v)
+    low_refusal(c, a, v)
 }
