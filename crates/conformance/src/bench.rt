@@ -1,10 +1,42 @@
-// One step on the bench: it is called, printed and reported.
+// The bench. A line of the input is a session's heading (#), a step as the replay text writes it, with spaces for tabs, or a remark
+// (/); or it says how large a slot's room is from now on (room), or who holds the transmit window (holder): a record changed by hand.
+use controller::Call;
 use controller::Controller;
 use controller::Done;
+use controller::FrameBytes;
 use libc::STDOUT_FILENO;
+use lines::Line;
+use lines::Parsed;
+use pieces::Held;
 use rules::Answer;
-use rules::Fault;
 use rules::SyncKind;
+
+struct Session {
+    controller: Controller,
+    room: u8,
+}
+
+// A session, and the line that has not ended yet.
+pub struct Bench {
+    session: Session,
+    held: Held,
+}
+
+// Before a session's first step. A room has six bytes more than a frame can fill.
+fn fresh() -> Session {
+    let c = Controller::after_reset();
+    Session {
+        controller: c,
+        room: 20,
+    }
+}
+
+pub fn start() -> Bench {
+    Bench {
+        session: fresh(),
+        held: pieces::none(),
+    }
+}
 
 fn put(text: &[u8]) {
     io::write_all(STDOUT_FILENO, text);
@@ -28,14 +60,6 @@ fn first(bytes: &[u8], k: u8) {
     if n <= bytes.len() {
         hexes(&bytes[..n]);
     }
-}
-
-// A session's heading, and the record after reset.
-pub fn session(name: &[u8]) -> Controller {
-    put(b"# ");
-    put(name);
-    put(b"\n");
-    Controller::after_reset()
 }
 
 fn word(answer: Answer) {
@@ -93,106 +117,165 @@ fn report(d: Done, room: &[u8]) -> Controller {
     next
 }
 
-pub fn reset(c: Controller) -> Controller {
-    put(b"Z");
-    report(c.reset(), b"")
+// A frame, its bytes being a value.
+fn framed(c: Controller, good: bool, f: FrameBytes) -> Done {
+    let b = f.bytes;
+    if f.size < 30 {
+        let n = f.size as usize;
+        return c.frame(good, &b[..n]);
+    }
+    c.frame(good, &b)
 }
 
-pub fn write(c: Controller, a: u8, v: u8) -> Controller {
-    put(b"W ");
-    hex(a);
-    put(b" ");
-    hex(v);
-    report(c.write(a, v), b"")
-}
-
-pub fn read(c: Controller, a: u8) -> Controller {
-    put(b"R ");
-    hex(a);
-    report(c.read(a), b"")
-}
-
-pub fn sync(c: Controller) -> Controller {
-    put(b"S N");
-    report(c.sync(SyncKind::Normal), b"")
-}
-
-pub fn alarm(c: Controller) -> Controller {
-    put(b"S A");
-    report(c.sync(SyncKind::Alarm), b"")
-}
-
-pub fn due(c: Controller) -> Controller {
-    put(b"M");
-    report(c.sync_due(), b"")
-}
-
-pub fn timeout(c: Controller) -> Controller {
-    put(b"Q");
-    report(c.timeout(), b"")
-}
-
-pub fn early(c: Controller) -> Controller {
-    put(b"P E");
-    report(c.fault(Fault::Early), b"")
-}
-
-pub fn lost(c: Controller) -> Controller {
-    put(b"P L");
-    report(c.fault(Fault::Lost), b"")
-}
-
-pub fn illegal(c: Controller) -> Controller {
-    put(b"P I");
-    report(c.fault(Fault::Illegal), b"")
-}
-
-pub fn mismatch(c: Controller) -> Controller {
-    put(b"P M");
-    report(c.fault(Fault::Mismatch), b"")
-}
-
-pub fn frame(c: Controller, bytes: &[u8]) -> Controller {
-    put(b"F G ");
-    hexes(bytes);
-    report(c.frame(true, bytes), b"")
-}
-
-pub fn bad_frame(c: Controller, bytes: &[u8]) -> Controller {
-    put(b"F B ");
-    hexes(bytes);
-    report(c.frame(false, bytes), b"")
-}
-
-// A slot with a lent room, whose content is printed after it.
-fn slot_in(c: Controller, i: u8, room: &mut [u8]) -> Controller {
-    put(b"T ");
-    hex(i);
-    let d = c.slot(i, room);
-    let next = report(d, room);
+// Slot i with a room of so many bytes, at most twenty, all EE, which is printed after it.
+fn slot(c: Controller, i: u8, size: u8) -> Controller {
+    let mut room = [0xEEu8; 20];
+    if 20 < size {
+        return c;
+    }
+    let n = size as usize;
+    let lent = &mut room[..n];
+    let d = c.slot(i, lent);
+    let next = report(d, lent);
     put(b"room ");
-    hexes(room);
+    hexes(lent);
     put(b"\n");
     next
 }
 
-// A room of twenty bytes, six more than a frame can fill, all EE.
-pub fn slot(c: Controller, i: u8) -> Controller {
-    let mut room = [0xEEu8; 20];
-    slot_in(c, i, &mut room)
+// The call, by its method.
+fn called(c: Controller, call: Call, f: FrameBytes, size: u8) -> Controller {
+    match call {
+        Call::Reset => report(c.reset(), b""),
+        Call::Read(a) => report(c.read(a), b""),
+        Call::Write(a, v) => report(c.write(a, v), b""),
+        Call::Sync(k) => report(c.sync(k), b""),
+        Call::SyncDue => report(c.sync_due(), b""),
+        Call::Slot(i) => slot(c, i, size),
+        Call::Frame(good) => report(framed(c, good, f), b""),
+        Call::Fault(k) => report(c.fault(k), b""),
+        Call::Timeout => report(c.timeout(), b""),
+    }
 }
 
-pub fn slot_with_14(c: Controller, i: u8) -> Controller {
-    let mut room = [0xEEu8; 14];
-    slot_in(c, i, &mut room)
+// A byte of a step's line: a tab for a space.
+fn tab(b: u8) -> u8 {
+    if b == b' ' { b'\t' } else { b }
 }
 
-pub fn slot_with_13(c: Controller, i: u8) -> Controller {
-    let mut room = [0xEEu8; 13];
-    slot_in(c, i, &mut room)
+fn show(h: Held) {
+    let bytes = h.bytes;
+    let n = h.len as usize;
+    if n <= 64 {
+        put(&bytes[..n]);
+    }
 }
 
-pub fn slot_with_1(c: Controller, i: u8) -> Controller {
-    let mut room = [0xEEu8; 1];
-    slot_in(c, i, &mut room)
+// The value of two digits, as a read's address has it.
+fn value(high: u8, low: u8) -> u8 {
+    let text = [b'R', b'\t', high, low];
+    let p = lines::parse(&text);
+    let line = p.line;
+    let Line::Step(call) = line else {
+        return 0;
+    };
+    let Call::Read(a) = call else {
+        return 0;
+    };
+    a
+}
+
+// The line as the replay text has it, read as a step.
+fn parsed(h: Held) -> Parsed {
+    let old = h.bytes;
+    let mut bytes = [0u8; 64];
+    for at in 0..64 {
+        bytes[at] = tab(old[at]);
+    }
+    let n = h.len as usize;
+    if 64 < n {
+        return lines::unread();
+    }
+    lines::parse(&bytes[..n])
+}
+
+fn step(s: Session, h: Held) -> Session {
+    let p = parsed(h);
+    let line = p.line;
+    let frame = p.frame;
+    let c = s.controller;
+    show(h);
+    let Line::Step(call) = line else {
+        put(b"\tunread\n");
+        return s;
+    };
+    let next = called(c, call, frame, s.room);
+    Session {
+        controller: next,
+        room: s.room,
+    }
+}
+
+// A line of the input.
+fn line(s: Session, h: Held) -> Session {
+    let bytes = h.bytes;
+    if h.len == 0 {
+        return s;
+    }
+    let mut next = s;
+    match bytes[0] {
+        b'#' => {
+            show(h);
+            put(b"\n");
+            fresh()
+        }
+        b'/' => s,
+        b'r' => {
+            let room = value(bytes[5], bytes[6]);
+            next.room = room;
+            next
+        }
+        b'h' => {
+            let holder = value(bytes[7], bytes[8]);
+            next.controller.control.transmit.holder = holder;
+            next
+        }
+        _ => step(s, h),
+    }
+}
+
+// The line with one more byte, as far as it has room.
+fn longer(h: Held, b: u8) -> Held {
+    let mut bytes = h.bytes;
+    let len = h.len;
+    if 64 <= len {
+        return h;
+    }
+    bytes[len as usize] = b;
+    let more = len + 1;
+    Held { bytes, len: more }
+}
+
+fn byte(t: Bench, b: u8) -> Bench {
+    let s = t.session;
+    let h = t.held;
+    if b == b'\n' {
+        return Bench {
+            session: line(s, h),
+            held: pieces::none(),
+        };
+    }
+    Bench {
+        session: s,
+        held: longer(h, b),
+    }
+}
+
+// The bench after some bytes of the input.
+pub fn fed(t: Bench, piece: &[u8]) -> Bench {
+    let mut next = t;
+    for at in 0..piece.len() {
+        next = byte(next, piece[at]);
+    }
+    next
 }
