@@ -1,5 +1,5 @@
 -- Laws of the bus events' proofs: a frame's size, a frame over a buffer's bytes, and the bytes of a buffer past the last.
-use Prim.Native.Nat.{ℕ, _+_, _-_, _≤_, _<_}
+use Prim.Native.Nat.{ℕ, _+_, _-_, _%_, _≤_, _<_}
 use mathlib.Core.Bool.{Bool, true, false, not}
 use mathlib.Core.List.{List, []}
 use mathlib.Core.Path.{_≡_, refl, sym, ap, _∙_}
@@ -65,6 +65,13 @@ module _ (rows : List Contents) (n : ℕ) where
   pub bytes-out : 16 ≤ n → replicate 14 0 ≡ rowBytes rows n
   unfolding rowBytes
   bytes-out h = sym (pick-false (ltb n 16) _ _ (le-ltb n 16 h))
+
+  -- row being the one to look at for it
+  pub row-bytes : (row : Contents) → n < 16 → row ≡ rowAt rows (n % 16) → row .bytes ≡ rowBytes rows n
+  row-bytes row h e = ap (λ (b : Contents). b .bytes) (e ∙ ap (rowAt rows) small) ∙ bytes-in h
+    where
+      small : n % 16 ≡ n
+      small = omega arith
 
 no-frame : frameOf (record { bytes = replicate 14 0 }) ≡ frameOf noContents
 unfolding frameOf bytesFrom

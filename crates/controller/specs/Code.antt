@@ -58,6 +58,12 @@ answerBy rows (Say a) = a
 answerBy rows (Store n a) = a
 answerBy rows (Send n) = Sent (length (frameOf (rowAt rows n)))
 
+-- the row to look at for a verdict: that of its buffer, and any other where it names none
+abbrev pub rowOf : Verdict → ℕ
+rowOf (Say a) = 0
+rowOf (Store n a) = n % 16
+rowOf (Send n) = n % 16
+
 -- the room afterwards
 abbrev pub roomBy : List Contents → List ℕ → Verdict → List ℕ
 roomBy rows room (Say a) = room

@@ -20,6 +20,8 @@ use Rattle.rules.specs.declared.Answer.the-variants.{Ok, Value, Refused}
 use Rattle.rules.specs.declared.Register.{Register}
 use Rattle.rules.specs.declared.Register.the-variants.{Mcr, Fsizr, Tcr1, Tcr2, Tcr3, Risr, Gisr, Rier, Gier, Rivec, Tivec, Fidac, Fidmr, Mvr, Pctlbf, Buflock, Fidrj, Fidrmr, TransmitWindow, ReceiveWindow, FifoWindow, Bufctl, Reserved}
 use Rattle.rules.specs.declared.Control.{Control}
+use Rattle.rules.specs.declared.Verdict.{Verdict}
+use Rattle.rules.specs.declared.Verdict.the-variants.{Say, Store, Send}
 use Rattle.rules.specs.Registers.{lowMap, registerAt}
 use Rattle.rules.specs.Kinds.{fifoHolder}
 use Rattle.rules.specs.Steps.{Step, reset, read, write, sync, syncDue, slot, frame, fault, timeout, dataRegister, hide, frameIn, roomIn}
@@ -38,7 +40,7 @@ use Rattle.controller.specs.declared.Change.{Change}
 use Rattle.controller.specs.Carry.{heads, rowAt, moveAll, answerOf, Outcome, carry, resetState}
 use Rattle.controller.specs.Session.{stepOf}
 use Rattle.controller.specs.View.{head-at}
-use Rattle.controller.specs.Code.{doneOf, answered, placed, changed, roomBy, ruled, windowByte, registerValue, writePlace, writeWindow, writtenRows}
+use Rattle.controller.specs.Code.{doneOf, answered, placed, changed, rowOf, roomBy, ruled, windowByte, registerValue, writePlace, writeWindow, writtenRows}
 
 not-false : (t : Bool) → not t ≡ false → t ≡ true
 not-false true e = refl
@@ -89,6 +91,12 @@ module _ (c : Controller) (x : Change) (d : Control) (a : Answer) where
   wipes-all b e = ap (changed c) e ∙ ap given (placed-all (c .rows) 17 b (omega arith))
 
 -- ---- rulings
+
+-- the row to look at for a verdict is one of the sixteen
+pub row-within : (v : Verdict) → rowOf v < 16
+row-within (Say a) = omega arith
+row-within (Store n a) = omega arith
+row-within (Send n) = omega arith
 
 -- a simple plan is carried out from its ruling
 ruled-plan : (c : Controller) (e : Step) (p : Plan) → Simple p → doneOf (carry e (c .rows) p) ≡ ruled c (frameIn e) (rulingOf p)

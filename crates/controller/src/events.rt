@@ -1,8 +1,10 @@
 // The bus events, and the five interrupt lines.
 ghost use mathlib.Core.Path.{_≡_};
 ghost use mathlib.Core.Bool.{not};
-ghost use Prim.Native.Nat.{_≤_};
+ghost use Prim.Native.Nat.{_≤_, _%_};
+ghost use mathlib.Core.List.{List};
 ghost use lib.ListN.{getD, drop, length};
+ghost use Rattle.contents.specs.declared.Contents.{Contents};
 ghost use Rattle.contents.specs.Bytes.{storeFrame};
 ghost use Rattle.rules.specs.Refusals.{refuses11};
 ghost use Rattle.rules.specs.Bus.{lookup, offers};
@@ -10,14 +12,16 @@ ghost use Rattle.masks.specs.Bits.{highest, maskOf};
 ghost use Rattle.bus_steps.specs.Code.{isReady};
 ghost use Rattle.rules.specs.Flags.{linesOf};
 ghost use Rattle.rules.specs.Steps.Step.{sync, syncDue, slot, frame, fault, timeout};
-ghost use Rattle.controller.specs.Carry.{heads};
+ghost use Rattle.controller.specs.declared.Controller.{Controller};
+ghost use Rattle.controller.specs.Carry.{heads, rowAt};
 ghost use Rattle.controller.specs.Session.{stepOf};
-ghost use Rattle.controller.specs.Code.{doneOf, storedRow, rowBytes, ruled, roomBy, changed};
+ghost use Rattle.controller.specs.Code.{doneOf, storedRow, rowBytes, rowOf, ruled, roomBy, changed};
 use crate::Change;
 use crate::Controller;
 use crate::Done;
 use crate::changes::with_answer;
 use crate::changes::with_bytes;
+use contents::Contents;
 use rules::Answer;
 use rules::Control;
 use rules::Fault;
@@ -53,6 +57,34 @@ fn store_frame(b: [u8; 14], f: &[u8]) -> [u8; 14]
         return contents::store(b, byte_or_zero(f, 0), byte_or_zero(f, 1), b"");
     }
     contents::store(b, f[0], f[1], &f[2..])
+}
+
+// The row to look at for buffer n: its own, and any other past the last.
+fn row_at(n: u8) -> usize
+    ensures { λ i. ⌜ i ≡ n % 16 ⌝ }
+{
+    n as usize % 16
+}
+
+// The bytes of buffer n, zeros past the last, the row to look at for it being row.
+fn bytes_at(n: u8, row: Contents) -> [u8; 14]
+    ensures { λ b. ⌜ ((rows : List Contents) → row ≡ rowAt rows (n % 16) → b ≡ rowBytes rows n) ⌝ }
+{
+    if 16 <= n {
+        return [0u8; 14];
+    }
+    row.bytes
+}
+
+// The frame f stored in buffer n, 16 or more for none, over its row, the control state being c.
+fn stored(c: Control, n: u8, row: Contents, f: &[u8], a: Answer) -> Change
+    ensures { λ x. ⌜ ((d : Controller) → length (d .rows) ≡ 16 → row ≡ rowAt (d .rows) (n % 16) → changed d x ≡ record { next = record { control = c; rows = storedRow (d .rows) n (now (f .entry)) }; answer = a }) ⌝ }
+{
+    if 16 <= n {
+        return with_answer(c, a);
+    }
+    let b = row.bytes;
+    with_bytes(c, n, store_frame(b, f), a)
 }
 
 impl Controller {
@@ -107,30 +139,41 @@ impl Controller {
         row.bytes
     }
 
-    // The frame f stored in buffer n, 16 or more for none, the control state being c.
-    fn stored(self, c: Control, n: u8, f: &[u8], a: Answer) -> Change
-        ensures { λ x. ⌜ changed self x ≡ record { next = record { control = c; rows = storedRow (self .rows) n (now (f .entry)) }; answer = a } ⌝ }
+    // The row to look at for a ruling: that of its buffer, and any other where it names none.
+    pub fn row_of(r: Ruling) -> usize
+        ensures { λ i. ⌜ i ≡ rowOf (r .verdict) ⌝ }
     {
-        if 16 <= n {
-            return with_answer(c, a);
+        let verdict = r.verdict;
+        match verdict {
+            Verdict::Say(_) => 0,
+            Verdict::Store(n, _) => row_at(n),
+            Verdict::Send(n) => row_at(n),
         }
-        with_bytes(c, n, store_frame(self.contents_of(n), f), a)
     }
 
-    // A ruling as a change, the step's frame being f.
-    fn ruled(self, r: Ruling, f: &[u8]) -> Change
-        ensures { λ x. ⌜ changed self x ≡ ruled self (now (f .entry)) r ⌝ }
+    // A ruling as a change, the row to look at for it being row, and the step's frame f.
+    pub fn ruling_change(r: Ruling, row: Contents, f: &[u8]) -> Change
+        ensures { λ x. ⌜ ((c : Controller) → length (c .rows) ≡ 16 → row ≡ rowAt (c .rows) (rowOf (r .verdict)) → changed c x ≡ ruled c (now (f .entry)) r) ⌝ }
     {
         let control = r.next;
         let verdict = r.verdict;
         match verdict {
             Verdict::Say(a) => with_answer(control, a),
-            Verdict::Store(n, a) => self.stored(control, n, f, a),
+            Verdict::Store(n, a) => stored(control, n, row, f, a),
             Verdict::Send(n) => with_answer(
                 control,
-                Answer::Sent(contents::frame_size(self.contents_of(n))),
+                Answer::Sent(contents::frame_size(bytes_at(n, row))),
             ),
         }
+    }
+
+    // The same, the row being the record's own.
+    fn ruled(self, r: Ruling, f: &[u8]) -> Change
+        ensures { λ x. ⌜ changed self x ≡ ruled self (now (f .entry)) r ⌝ }
+    {
+        let i = Controller::row_of(r);
+        let row = self.rows[i];
+        Controller::ruling_change(r, row, f)
     }
 
     // The room after a verdict: a sent frame fills its first bytes.
@@ -163,16 +206,26 @@ impl Controller {
         self.ruled(bus_steps::on_due(c, self.named()), b"")
     }
 
+    // The ruling of a frame: its verdict and its bytes.
+    pub fn frame_ruling(self, good: bool, f: &[u8]) -> Ruling
+        ensures { λ r. ⌜ ruled self (now (f .entry)) r ≡ doneOf (stepOf self (frame good (now (f .entry)))) ⌝ }
+    {
+        let c = self.control;
+        if !well_sized(f) {
+            return Ruling {
+                next: c,
+                verdict: Verdict::Say(Answer::Refused(11)),
+            };
+        }
+        let i = f[0];
+        bus_steps::on_frame(c, good, i, self.lookup(i))
+    }
+
     // A frame: its verdict and its bytes.
     pub fn plan_frame(self, good: bool, f: &[u8]) -> Change
         ensures { λ x. ⌜ changed self x ≡ doneOf (stepOf self (frame good (now (f .entry)))) ⌝ }
     {
-        let c = self.control;
-        if !well_sized(f) {
-            return with_answer(c, Answer::Refused(11));
-        }
-        let i = f[0];
-        self.ruled(bus_steps::on_frame(c, good, i, self.lookup(i)), f)
+        self.ruled(self.frame_ruling(good, f), f)
     }
 
     // A fault of the bus.

@@ -1,70 +1,26 @@
 -- The exported functions' ends: what their callees say gives what the interface says.
 use mathlib.Core.Path.{_≡_, refl, sym, ap, ap₂, _∙_}
-use Prim.Native.Nat.{ℕ, zero, suc, _≤_, _<_, min}
+use Prim.Native.Nat.{ℕ}
 use native.Mathlib.Omega.{arith}
-use native.Mathlib.Nat.{zero-min, min-zero, suc-min-suc, le-of-suc-le-suc, not-suc-le-zero}
 use mathlib.Core.Bool.{Bool, true, false, not}
-use mathlib.Core.List.{List, [], _∷_}
-use borrow.Author.Tests.{eq-eqb, ne-eqb, leb-true, leb-false}
-use lib.Dec.{T as Holds, eqb, leb, eqb→eq}
+use mathlib.Core.List.{List}
+use borrow.Author.Tests.{eq-eqb, ne-eqb}
+use lib.Dec.{T as Holds, eqb, eqb→eq}
 use mir.Facts.{eqb-no}
-use lib.ListN.{length, take, length-take}
 use Rattle.masks.specs.Pick.{pick-true, pick-false, by-test}
 use Rattle.rules.specs.declared.Answer.{Answer}
-use Rattle.rules.specs.Steps.{frame}
 use Rattle.rules.specs.Flags.{linesOf}
-use Rattle.rules.specs.Refusals.{refuses11}
 use Rattle.controller.specs.declared.Controller.{Controller}
-use Rattle.controller.specs.declared.Done.{Done}
-use Rattle.controller.specs.declared.FrameBytes.{FrameBytes}
 use Rattle.controller.specs.declared.Call.{Call}
-use Rattle.controller.specs.declared.Call.the-variants.{Reset, Read, Write, Sync, SyncDue, Slot, Frame, Fault, Timeout}
+use Rattle.controller.specs.declared.Call.the-variants.{Reset}
 use Rattle.controller.specs.Carry.{resetState}
 use Rattle.controller.specs.Session.{stepOf}
-use Rattle.controller.specs.Code.{doneOf, stepFor, roomFor, bytesIn}
-use Rattle.controller.specs.CodeLaws.{frame-refused}
+use Rattle.controller.specs.Code.{doneOf, stepFor, roomFor}
 use Rattle.hevrukan.specs.declared.Asked.{Asked}
 use Rattle.hevrukan.specs.declared.Asked.the-variants.{Step, Unknown}
 use Rattle.hevrukan.specs.declared.Request.{Request}
 use Rattle.hevrukan.specs.Interface.{recordSize, wrongSize, numberOf, callOf, Effect, unchanged, effectOf, stepEffect, resetNext, resetAnswer, linesAnswer}
 use Rattle.hevrukan.specs.Code.{requestFor, requestOf}
-
--- ---- a frame cut at thirty bytes
-
-pub take-min : (k : ℕ) (l : List ℕ) → take (min k (length l)) l ≡ take k l
-take-min zero l = ap (λ (n : ℕ). take n l) (zero-min (length l))
-take-min (suc k) [] = ap (λ (n : ℕ). take {A = ℕ} n []) (min-zero (suc k))
-take-min (suc k) (x ∷ l) = ap (λ (n : ℕ). take n (x ∷ l)) (suc-min-suc k (length l)) ∙ ap (λ (t : List ℕ). x ∷ t) (take-min k l)
-
-take-all : (k : ℕ) (l : List ℕ) → length l ≤ k → take k l ≡ l
-take-all zero [] h = refl
-take-all zero (x ∷ l) h = absurd (not-suc-le-zero h)
-take-all (suc k) [] h = refl
-take-all (suc k) (x ∷ l) h = ap (λ (t : List ℕ). x ∷ t) (take-all k l (le-of-suc-le-suc h))
-
--- a frame over fourteen bytes is refused
-long-refused : (f : List ℕ) → 14 < length f → refuses11 f ≡ true
-unfolding refuses11
-long-refused f h = ap not (ne-eqb (length f) _ (λ e. omega (arith, e)))
-
--- so a frame and its first thirty bytes give the same step
-same-frame : (c : Controller) (good : Bool) (f : List ℕ) → doneOf (stepOf c (frame good (take 30 f))) ≡ doneOf (stepOf c (frame good f))
-same-frame c good f =
-    by-test (leb (length f) 30) (λ e. ap (λ (g : List ℕ). doneOf (stepOf c (frame good g))) (take-all 30 f (leb-true _ _ e))) (λ e.
-    let long : 30 < length f = leb-false _ _ e in
-    frame-refused c good (take 30 f) (long-refused (take 30 f) (omega (arith, length-take 30 f)))
-    ∙ sym (frame-refused c good f (long-refused f (omega arith))))
-
-pub same-step : (c : Controller) (call : Call) (f room : List ℕ) → doneOf (stepOf c (stepFor call (take 30 f) room)) ≡ doneOf (stepOf c (stepFor call f room))
-same-step c Reset f room = refl
-same-step c (Read a) f room = refl
-same-step c (Write a v) f room = refl
-same-step c (Sync k) f room = refl
-same-step c SyncDue f room = refl
-same-step c (Slot i) f room = refl
-same-step c (Frame good) f room = same-frame c good f
-same-step c (Fault k) f room = refl
-same-step c Timeout f room = refl
 
 -- ---- a step's end, for a request q; how a test came out is a `Holds`
 
@@ -129,18 +85,15 @@ module _ (c : Controller) (size kind first second : ℕ) (frame room : List ℕ)
   unmade q e h =
       uncalled (λ z. eqb-no h (ap (λ (p : Request). p .answer) e ∙ z)) ∙ ap (λ (p : Request). unchanged c room (p .answer)) (sym e)
 
-  -- any other is the call's step
-  pub made : (q : Request) (f : FrameBytes) {next : Controller} {a : Answer} {zs : List ℕ} {m : ℕ} → q ≡ request → Holds (not (not (eqb (q .answer) 0))) → bytesIn f ≡ take 30 frame →
-      (next ≡ doneOf (stepOf c (stepFor (q .call) (bytesIn f) room)) .next) × (a ≡ doneOf (stepOf c (stepFor (q .call) (bytesIn f) room)) .answer) × (zs ≡ roomFor c (q .call) room) →
+  -- any other is the step of its call
+  pub made : (q : Request) (call : Call) {next : Controller} {a : Answer} {zs : List ℕ} {m : ℕ} → q ≡ request → Holds (not (not (eqb (q .answer) 0))) → q .call ≡ call →
+      (next ≡ doneOf (stepOf c (stepFor call frame room)) .next) × (a ≡ doneOf (stepOf c (stepFor call frame room)) .answer) × (zs ≡ roomFor c call room) →
       m ≡ numberOf a → effect ≡ record { next = next; answer = m; room = zs }
   unfolding effectOf
-  made q f e h cut said n =
+  made q call e h same said n =
       let z : q .answer ≡ 0 = eqb→eq (q .answer) 0 (not-not (eqb (q .answer) 0) h) in
-      let step : doneOf (stepOf c (stepFor (q .call) (bytesIn f) room)) ≡ doneOf (stepOf c (stepFor (q .call) frame room)) =
-      ap (λ (g : List ℕ). doneOf (stepOf c (stepFor (q .call) g room))) cut ∙ same-step c (q .call) frame room in
-      called (ap (λ (p : Request). p .answer) (sym e) ∙ z) ∙ ap (λ (p : Request). effectOf c (Step (p .call)) frame room) (sym e)
-      ∙ sym (leaves-same (said .0 ∙ ap (λ (d : Done). d .next) step)
-      (n ∙ ap numberOf (said .1 ∙ ap (λ (d : Done). d .answer) step)) (said .2))
+      called (ap (λ (p : Request). p .answer) (sym e) ∙ z) ∙ ap (λ (k : Call). effectOf c (Step k) frame room) (ap (λ (p : Request). p .call) (sym e) ∙ same)
+      ∙ sym (leaves-same (said .0) (n ∙ ap numberOf (said .1)) (said .2))
 
 -- ---- the ends of `hevrukan_reset` and `hevrukan_lines`
 

@@ -1,7 +1,6 @@
-// The call that a kind and its two numbers stand for, and a frame's bytes.
+// The call that a kind and its two numbers stand for.
 ghost use mathlib.Core.Path.{_≡_};
-ghost use Prim.Native.Nat.{min};
-ghost use lib.ListN.{take};
+ghost use mathlib.Core.List.{[]};
 ghost use Rattle.controller.specs.Code.{bytesIn};
 ghost use Rattle.hevrukan.specs.Interface.{addressOf, writeOf, syncOf, slotOf, frameOf, faultOf, callOf};
 ghost use Rattle.hevrukan.specs.Code.{requestOf};
@@ -110,24 +109,12 @@ pub fn requested(size: usize, kind: u32, first: u32, second: u32) -> Request
     }
 }
 
-// How many of a frame's n bytes are copied.
-fn copied_size(n: usize) -> u8
-    ensures { λ r. ⌜ r ≡ min 30 n ⌝ }
+// No frame: what a call that looks at none is given.
+pub fn no_frame() -> FrameBytes
+    ensures { λ r. ⌜ bytesIn r ≡ [] ⌝ }
 {
-    if n < 30 { n as u8 } else { 30 }
-}
-
-// A frame's bytes as a value, cut at thirty: a frame of more than fourteen is refused whatever its bytes.
-pub fn frame_bytes(f: &[u8]) -> FrameBytes
-    ensures { λ r. ⌜ bytesIn r ≡ take 30 (now (f .entry)) ⌝ }
-{
-    let size = copied_size(f.len());
-    let n = size as usize;
-    let mut bytes = [0u8; 30];
-    let mut i = 0;
-    while i < n {
-        bytes[i] = f[i];
-        i += 1;
+    FrameBytes {
+        bytes: [0u8; 30],
+        size: 0,
     }
-    FrameBytes { bytes, size }
 }

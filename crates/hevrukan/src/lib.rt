@@ -66,8 +66,12 @@ pub extern "C" fn hevrukan_step(
     if asked.answer != 0 {
         return asked.answer;
     }
-    let bytes = calls::frame_bytes(frame);
-    answers::number(lent::step(c, asked.call, bytes, room))
+    let call = asked.call;
+    let answer = match call {
+        Call::Frame(good) => lent::frame(c, good, frame),
+        _ => lent::step(c, call, calls::no_frame(), room),
+    };
+    answers::number(answer)
 }
 
 // The five lines, 0 to 31: bit 4 FIFO, 3 receive, 2 sync, 1 XSYNC, 0 general.

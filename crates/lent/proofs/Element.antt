@@ -1,6 +1,8 @@
 -- An element of an array in a cell: how a walk reaches it, and what an array with one element changed is.
 --     elem us k d h l p     element k of an array's cell that p finds, a part as `Types/Part.antt`'s `sub` is of a struct's field
+--     elem-at us k d v e h l p     the same, its value being v
 --     map-set, array-set       the machine values and the relation of an array in which element k is another
+--     map-getD, array-get      the machine value and the relation of element k
 -- Assumes `Given` (of it `at-elems`, `elems-at`).
 use mathlib.Core.Path.{_≡_, refl, ap, _∙_, subst}
 use Prim.Native.Nat.{ℕ, zero, suc, _+_, _<_}
@@ -32,6 +34,19 @@ map-set f [] i y = refl
 map-set f (x ∷ xs) zero y = refl
 map-set f (x ∷ xs) (suc i) y = ap (λ (zs : List _). f x ∷ zs) (map-set f xs i y)
 
+pub map-getD : {A B : Type 0} (f : A → B) (l : List A) (i : ℕ) (d : A) → getD (map f l) i (f d) ≡ f (getD l i d)
+map-getD f [] i d = refl
+map-getD f (x ∷ xs) zero d = refl
+map-getD f (x ∷ xs) (suc i) d = map-getD f xs i d
+
+-- what one element says
+pub each-get : {D : Type 0} (f : D → List Val → Fml) (xs : List D) (us : List Val) (i : ℕ) (d : D) (u : Val) →
+    i < length xs → shadow (Arr.each D f xs us) → shadow (f (getD xs i d) (getD us i u ∷ []))
+each-get f [] us i d u l h = absurd (not-suc-le-zero l)
+each-get f (x ∷ xs) [] i d u l h = absurd h
+each-get f (x ∷ xs) (v ∷ us) zero d u l h = h .0
+each-get f (x ∷ xs) (v ∷ us) (suc i) d u l h = each-get f xs us i d u (le-of-suc-le-suc l) (h .1)
+
 -- what each element says, one of them being another
 pub each-set : {D : Type 0} (f : D → List Val → Fml) (xs : List D) (us : List Val) (i : ℕ) (y : D) (u : Val) →
     shadow (Arr.each D f xs us) → shadow (f y (u ∷ [])) → shadow (Arr.each D f (set xs i y) (set us i u))
@@ -48,6 +63,11 @@ module _ (R : RattleType) (val : R .Denot → Val) (tells : Tells R (Is R) (λ x
   each-vals [] (u ∷ us) s = absurd s
   each-vals (x ∷ xs) [] s = absurd s
   each-vals (x ∷ xs) (u ∷ us) s = λ i. only (tells x (u ∷ []) (s .0) i) ∷ each-vals xs us (s .1) i
+
+  pub array-get : (n : ℕ) (xs : List (R .Denot)) (vs : List Val) (k : ℕ) (d : R .Denot) → k < length xs → Is (Arr.Array R n) xs vs → Is R (getD xs k d) (val (getD xs k d) ∷ [])
+  array-get n xs vs k d l p =
+      subst (λ (u : Val). Is R (getD xs k d) (u ∷ [])) (map-getD val xs k d)
+      (each-get (R .own) xs (map val xs) k d (val d) l (subst (λ (us : List Val). shadow (Arr.each (R .Denot) (R .own) xs us)) (each-vals xs (p .0) (p .1 .1)) (p .1 .1)))
 
   pub array-set : (n : ℕ) (xs : List (R .Denot)) (vs : List Val) (k : ℕ) (y : R .Denot) → Is (Arr.Array R n) xs vs → Is R y (val y ∷ []) → Is (Arr.Array R n) (set xs k y) (Arr.arrayVal (map val (set xs k y)) ∷ [])
   array-set n xs vs k y p g = (
@@ -106,3 +126,8 @@ module _ {M : Type 1} {𝓤 : URA M} {H : Heap 𝓤} {A : Atoms 𝓤} {K : Type 
 
       Entry : Val → SProp 𝓤
       Entry w = wand 𝓤 (H .at q (tyArray τ n) b o w) (mean 𝓤 H A (back w))
+
+  pub elem-at : K → {i : Item 𝓤} {q : Share} {τ : Ty} {n b o : ℕ} {back : Val → Item 𝓤} (us : List Val) (k : ℕ) (d v : Val) → getD us k d ≡ v → k < length us → length us ≡ n
+      → Part K W i q (tyArray τ n) b o (vstruct (ofList us)) back → Part K W i q τ b (place (size τ) o k) v (λ u. back (vstruct (ofList (set us k u))))
+  elem-at t {i} {q} {τ} {n} {b} {o} {back} us k d v e h l p =
+      subst (λ (w : Val). Part K W i q τ b (place (size τ) o k) w (λ u. back (vstruct (ofList (set us k u))))) e (elem t us k d h l p)

@@ -1,15 +1,19 @@
 // The step on a lent record, changed in place. Each kind of step has a path of its own, so that none carries what another
 // changes: a read writes nothing, and a call that touches no buffer's bytes writes the control state alone.
 ghost use mathlib.Core.Path.{_≡_};
+ghost use lib.ListN.{length};
 ghost use Rattle.rules.specs.Steps.Step.{read as readStep, frame as frameStep};
 ghost use Rattle.controller.specs.Session.{stepOf};
-ghost use Rattle.controller.specs.Code.{doneOf, changed, stepFor, roomFor, bytesIn};
+ghost use Rattle.controller.specs.declared.Controller.{Controller};
+ghost use Rattle.controller.specs.Carry.{rowAt};
+ghost use Rattle.controller.specs.Code.{doneOf, changed, ruled, rowOf, stepFor, roomFor, bytesIn};
 use contents::Contents;
 use controller::Call;
 use controller::Change;
 use controller::Controller;
 use controller::FrameBytes;
 use rules::Answer;
+use rules::Ruling;
 
 // The answer to a register read.
 fn read(c: Controller, a: u8) -> Answer
@@ -19,16 +23,28 @@ fn read(c: Controller, a: u8) -> Answer
     x.answer
 }
 
-// What a frame changes, its bytes being a value.
-fn framed(c: Controller, good: bool, f: FrameBytes) -> Change
-    ensures { λ x. ⌜ changed c x ≡ doneOf (stepOf c (frameStep good (bytesIn f))) ⌝ }
+// The ruling of a frame, its bytes being a value.
+fn ruling(c: Controller, good: bool, f: FrameBytes) -> Ruling
+    ensures { λ r. ⌜ ruled c (bytesIn f) r ≡ doneOf (stepOf c (frameStep good (bytesIn f))) ⌝ }
 {
     let b = f.bytes;
     if f.size < 30 {
         let n = f.size as usize;
-        return c.plan_frame(good, &b[..n]);
+        return c.frame_ruling(good, &b[..n]);
     }
-    c.plan_frame(good, &b)
+    c.frame_ruling(good, &b)
+}
+
+// What it changes, the row to look at for it being row.
+fn framed(r: Ruling, row: Contents, f: FrameBytes) -> Change
+    ensures { λ x. ⌜ ((c : Controller) → length (c .rows) ≡ 16 → row ≡ rowAt (c .rows) (rowOf (r .verdict)) → changed c x ≡ ruled c (bytesIn f) r) ⌝ }
+{
+    let b = f.bytes;
+    if f.size < 30 {
+        let n = f.size as usize;
+        return Controller::ruling_change(r, row, &b[..n]);
+    }
+    Controller::ruling_change(r, row, &b)
 }
 
 // The change carried out: the control state, and the one buffer whose bytes change. Only a reset writes the whole record.
@@ -47,6 +63,17 @@ fn carry(c: &mut Controller, x: Change) -> Answer
         }
     }
     x.answer
+}
+
+// The step of a frame whose bytes are a slice: a copy of them would take longer than the step.
+pub fn frame(c: &mut Controller, good: bool, f: &[u8]) -> Answer
+    ensures { λ r. ⌜ (now (c .exit) ≡ doneOf (stepOf (now (c .entry)) (frameStep good (now (f .entry)))) .next) × (r ≡ doneOf (stepOf (now (c .entry)) (frameStep good (now (f .entry)))) .answer) ⌝ }
+{
+    let r = (*c).frame_ruling(good, f);
+    let i = Controller::row_of(r);
+    let row = c.rows[i];
+    let x = Controller::ruling_change(r, row, f);
+    carry(c, x)
 }
 
 // The step: the record after it, its answer, and the room. Only a slot looks at the room, and only a frame at the bytes f.
@@ -76,7 +103,10 @@ pub fn step(c: &mut Controller, call: Call, f: FrameBytes, room: &mut [u8]) -> A
             carry(c, x)
         }
         Call::Frame(good) => {
-            let x = framed(*c, good, f);
+            let r = ruling(*c, good, f);
+            let i = Controller::row_of(r);
+            let row = c.rows[i];
+            let x = framed(r, row, f);
             carry(c, x)
         }
         Call::Fault(k) => {

@@ -17,20 +17,20 @@ array-share-prefix-b c =
     let thirty : length (f .bytes) ≡ 30 = search needs in
     omega (arith, c .before .if1 .taken)
 
-slice-aggregate-plan-frame : tie.Need-slice-aggregate-plan-frame
-slice-aggregate-plan-frame c = sym (length-take-le _ _ (array-share-prefix-b (c .before)))
+slice-aggregate-ruling-change : tie.Need-slice-aggregate-ruling-change
+slice-aggregate-ruling-change c = sym (length-take-le _ _ (array-share-prefix-b (c .before)))
 
-plan-frame-requires : tie.Need-plan-frame-requires
-plan-frame-requires c κs = search needs
+ruling-change-requires : tie.Need-ruling-change-requires
+ruling-change-requires c κs = search needs
 
 returns : tie.Need-returns
 returns c = search needs
 
-slice-aggregate-plan-frame-2 : tie.Need-slice-aggregate-plan-frame-2
-slice-aggregate-plan-frame-2 c = search needs
+slice-aggregate-ruling-change-2 : tie.Need-slice-aggregate-ruling-change-2
+slice-aggregate-ruling-change-2 c = search needs
 
-plan-frame-requires-2 : tie.Need-plan-frame-requires-2
-plan-frame-requires-2 c κs = search needs
+ruling-change-requires-2 : tie.Need-ruling-change-requires-2
+ruling-change-requires-2 c κs = search needs
 
 returns-2 : tie.Need-returns-2
 returns-2 c =
@@ -38,7 +38,7 @@ returns-2 c =
     let f = start .args .f in
     let thirty : length (f .bytes) ≡ 30 = thirty-bytes f _ (start .good .1 .1 .0) in
     let whole : take (f .size) (f .bytes) ≡ f .bytes = take-all (f .size) (f .bytes) (omega (arith, c .before .before .if1 .left)) in
-    rw whole (c .plan-frame2 .ensures)
+    rw whole (c .ruling-change2 .ensures)
 
 pub framed-spec : {M : Type 1} → statement M
 framed-spec =
@@ -46,9 +46,9 @@ framed-spec =
     (tie.spec
     cast-n
     array-share-prefix-b
-    slice-aggregate-plan-frame
-    plan-frame-requires
+    slice-aggregate-ruling-change
+    ruling-change-requires
     returns
-    slice-aggregate-plan-frame-2
-    plan-frame-requires-2
+    slice-aggregate-ruling-change-2
+    ruling-change-requires-2
     returns-2)

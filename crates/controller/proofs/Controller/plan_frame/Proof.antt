@@ -1,57 +1,16 @@
-use mathlib.Core.Path.{sym, _∙_}
-use native.Mathlib.Omega.{arith}
+use mathlib.Core.Path.{_∙_}
 use borrow.Author.Needs.{needs}
-use Rattle.rules.specs.declared.Answer.the-variants.{Refused}
-use Rattle.controller.specs.Code.{ruled}
-use Rattle.controller.specs.CodeLaws.{says-only, frame-step, frame-refused}
-use Rattle.controller.proofs.EventLaws.{size-refused, size-taken, sized-long}
 use Rattle.controller.proofs.Controller.plan_frame.Statement.{statement}
 use Rattle.controller.proofs.Controller.plan_frame.Tie as tie
 
-well-sized-requires : tie.Need-well-sized-requires
-well-sized-requires c κs = search needs
-
-with-answer-requires : tie.Need-with-answer-requires
-with-answer-requires c κs = search needs
-
-returns : tie.Need-returns
-returns c =
-    let a = c .before .before .before .before .before .args in
-    says-only (a .self) _ (a .self .control) (Refused 11) (c .with-answer .ensures)
-    ∙ sym (frame-refused (a .self) (a .good) (a .f .now) (size-refused (a .f .now) _ (c .before .before .well-sized .ensures) (c .before .if1 .taken)))
-
-shared-slice-read-i : tie.Need-shared-slice-read-i
-shared-slice-read-i c =
-    let f = c .before .before .before .before .before .args .f .now in
-    let h = sized-long f (size-taken f _ (c .before .before .well-sized .ensures) (c .before .if1 .left)) in
-    omega arith
-
-lookup-requires : tie.Need-lookup-requires
-lookup-requires c κs = search needs
-
-on-frame-requires : tie.Need-on-frame-requires
-on-frame-requires c κs = search needs
+frame-ruling-requires : tie.Need-frame-ruling-requires
+frame-ruling-requires c κs = search needs
 
 ruled-requires : tie.Need-ruled-requires
 ruled-requires c κs = search needs
 
-returns-2 : tie.Need-returns-2
-returns-2 c =
-    let a = c .before .before .before .before .before .before .before .before .args in
-    let f = a .f .now in
-    let known = size-taken f _ (c .before .before .before .before .before .well-sized .ensures) (c .before .before .before .before .if1 .left) in
-    c .ruled .ensures ∙ rw (c .before .on-frame .ensures)
-    (sym (frame-step (a .self) (a .good) f (c .before .before .lookup .result) known (c .before .before .lookup .ensures)))
+returns : tie.Need-returns
+returns c = c .ruled .ensures ∙ c .before .frame-ruling .ensures
 
 pub plan-frame-spec : {M : Type 1} → statement M
-plan-frame-spec =
-    tie.close
-    (tie.spec
-    well-sized-requires
-    with-answer-requires
-    returns
-    shared-slice-read-i
-    lookup-requires
-    on-frame-requires
-    ruled-requires
-    returns-2)
+plan-frame-spec = tie.close (tie.spec frame-ruling-requires ruled-requires returns)
