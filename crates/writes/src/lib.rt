@@ -5,7 +5,9 @@ mod locking;
 mod parts;
 
 ghost use mathlib.Core.Path.{_≡_};
+ghost use Rattle.rules.specs.declared.Register.the-variants.{Bufctl};
 ghost use Rattle.rules.specs.Writes.{writeGier, written};
+ghost use Rattle.writes.specs.Code.{writtenLow};
 use crate::bufctl::write_bufctl;
 use crate::events::write_gisr;
 use crate::events::write_risr;
@@ -35,9 +37,17 @@ pub fn write_gier(init: bool, old: u8, v: u8) -> u8
     if init { v } else { v & !LOCKIE | old & LOCKIE }
 }
 
-// A write of a register; a window's bytes are none of the control state.
-pub fn written(c: Control, register: Register, v: u8) -> Control
-    ensures { λ r. ⌜ r ≡ written c register v ⌝ }
+// A write of buffer n's control register.
+pub fn written_control(c: Control, n: u8, v: u8) -> Control
+    ensures { λ r. ⌜ r ≡ written c (Bufctl n) v ⌝ }
+{
+    write_bufctl(c, n, v)
+}
+
+// A write of a register below $50; a window's bytes are none of the control state. The control registers, which test code writes
+// most, have a path of their own.
+pub fn written_low(c: Control, register: Register, v: u8) -> Control
+    ensures { λ r. ⌜ r ≡ writtenLow c register v ⌝ }
 {
     match register {
         Register::Mcr => write_mcr(c, v),
@@ -67,7 +77,7 @@ pub fn written(c: Control, register: Register, v: u8) -> Control
         Register::TransmitWindow(_) => c,
         Register::ReceiveWindow(_) => c,
         Register::FifoWindow(_) => c,
-        Register::Bufctl(n) => write_bufctl(c, n, v),
+        Register::Bufctl(_) => c,
         Register::Reserved => c,
     }
 }

@@ -1,12 +1,12 @@
 use borrow.Author.Needs.{needs}
 use Rattle.rules.specs.Writes.{written}
-use Rattle.writes.proofs.written.Statement.{statement}
-use Rattle.writes.proofs.written.Tie as tie
+use Rattle.writes.proofs.written_low.Statement.{statement}
+use Rattle.writes.proofs.written_low.Tie as tie
 
 -- a line a register, in the order of the match: first what its calls require, then what it returns
-pub written-spec : {M : Type 1} → statement M
+pub written-low-spec : {M : Type 1} → statement M
 unfolding written
-written-spec =
+written-low-spec =
     tie.close
     (tie.spec
     (λ c. search needs) (λ c κs. search needs)
@@ -30,7 +30,7 @@ written-spec =
     (λ c. search needs)
     (λ c. search needs)
     (λ c. search needs)
-    (λ c. search needs) (λ c κs. search needs)
+    (λ c. search needs)
     (λ c. search needs)
     (λ c. simp (c .before .enum-told .given .1) (c .write-mcr .ensures))
     (λ c. simp (c .before .enum-told2 .given .1) (c .with-fsiz .ensures))
@@ -53,5 +53,5 @@ written-spec =
     (λ c. simp (c .enum-told19 .given .1))
     (λ c. simp (c .enum-told20 .given .1))
     (λ c. simp (c .enum-told21 .given .1))
-    (λ c. simp (c .before .before .register .given .1) (c .write-bufctl .ensures))
-    (λ c. simp (c .enum-told22 .given .1)))
+    (λ c. simp (c .enum-told22 .given .1))
+    (λ c. simp (c .enum-told23 .given .1)))
