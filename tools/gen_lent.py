@@ -404,9 +404,9 @@ use mir.Syntax.{tyPtr, op2, unsigned, mul, offset, int as intᴹ}
 use denote.Index.{place-is}
 use Rattle.contents.specs.Bytes.{noContents}
 use Rattle.controller.specs.Carry.{rowAt}
-use Rattle.controller.specs.Code.{rowOf, ruled}
+use Rattle.controller.specs.Code.{rowOf, windowRow, ruled}
 use Rattle.lent.proofs.Element.{elem-at}
-use Rattle.lent.proofs.Rows.{at-rows, values, value-at, row-below, byte-fits, sixteen-rows, sixteen-values, in-rows, row-is}"""
+use Rattle.lent.proofs.Rows.{at-rows, values, value-at, row-below, window-below, byte-fits, sixteen-rows, sixteen-values, in-rows, row-is, control-is}"""
 CHANGE_IS=f"""change-is : (x : Change) (vs : List Val) → Is S.the-row x vs → {Cha.is_("x")}
 change-is x vs g = LL.owes S.the-type S′.the-laws x (LL.owed S.the-type S′.the-laws x vs g)
 
@@ -419,39 +419,46 @@ ASK_ROWS=f"""  abbrev to-rows : Ruling → {rows.at()} .Ghost
   asked-rows : (r : Ruling) → {Rul.is_("r")} → ent 𝓤 (emp 𝓤) ({rows.at()} .pre (to-rows r))
   asked-rows r r-is = qed W [] ∵ nothing ! $ nothing ! $ {Rul.owned("r","r-is")}fjoin ! $ move ! (1 ∷ 0 ∷ []) $ join ! $ nothing ! $ move ! (1 ∷ 0 ∷ []) $ join ! $ done !
 """
-class Ruled:
-    """the locals: the ruling, its row's index, the row, the change; the product, the two pointers and the copy that the index takes"""
-    def __init__(self,r,i,row,x,mul,ptr,off,tmp): self.r=r; self.i=i; self.row=row; self.x=x; self.mul=mul; self.ptr=ptr; self.off=off; self.tmp=tmp
-    def all(self): return [self.r,self.i,self.row,self.x,self.mul,self.ptr,self.off,self.tmp]
-    def code(self,change):
-        """the code from the index on, up to change"""
+class Look:
+    """the locals of a row that is looked at: its index and itself; the product, the two pointers and the copy that the index takes"""
+    def __init__(self,i,row,mul,ptr,off,tmp): self.i=i; self.row=row; self.mul=mul; self.ptr=ptr; self.off=off; self.tmp=tmp
+    def all(self): return [self.i,self.row,self.mul,self.ptr,self.off,self.tmp]
+    def code(self,tag,find,make):
+        """the code from the call that finds the index on, up to make"""
         a=lambda i,v,rest:f"seqᴹ (assignᴹ (placeᴹ {i} []) ({v})) ({rest})"
-        c=a(self.mul,f"op2 (mul unsigned) ({cp(self.i)}) (intᴹ w64 14)",a(self.ptr,"addrOf (placeᴹ 1 (deref T′.mir ∷ fieldᴹ 1 ∷ []))",a(self.off,f"op2 offset ({cp(self.ptr)}) ({cp(self.mul)})",a(self.tmp,f"rvOpd (copyᴹ (placeᴹ {self.off} (deref {Row.mir()} ∷ [])))",a(self.row,f"rvOpd ({cp(self.tmp)})",change)))))
-        return f"abbrev code-reading : Bodyᴹ\ncode-reading = {c}\n\nabbrev code-finding : Bodyᴹ\ncode-finding = seqᴹ (callᴹ #rows ({cp(self.r)} ∷ []) (placeᴹ {self.i} [])) code-reading\n"
+        c=a(self.mul,f"op2 (mul unsigned) ({cp(self.i)}) (intᴹ w64 14)",a(self.ptr,"addrOf (placeᴹ 1 (deref T′.mir ∷ fieldᴹ 1 ∷ []))",a(self.off,f"op2 offset ({cp(self.ptr)}) ({cp(self.mul)})",a(self.tmp,f"rvOpd (copyᴹ (placeᴹ {self.off} (deref {Row.mir()} ∷ [])))",a(self.row,f"rvOpd ({cp(self.tmp)})",f"code-making-{tag}")))))
+        return f"abbrev code-making-{tag} : Bodyᴹ\ncode-making-{tag} = {make}\n\nabbrev code-reading-{tag} : Bodyᴹ\ncode-reading-{tag} = {c}\n\nabbrev code-finding-{tag} : Bodyᴹ\ncode-finding-{tag} = seqᴹ ({find} (placeᴹ {self.i} [])) code-reading-{tag}\n"
+def codes(tag): return [f"code-{x}-{tag}" for x in ("finding","reading","making")]
 ROW="rowAt (h .rows) i"
-def ruling(lemma,w,LT,ctx,val,held,ys,L,codes,q,bytes,goal,pre,given,change,end):
-    """the lemmas of a ruling r that gives the step: the index of the row to look at, the row, and the change; bytes: the frame's; pre, given: what else is known; change: the call's text, of which d is what it says"""
-    HYP=f"(r : Ruling) → {Rul.is_('r')} → ruled h {bytes} r ≡ {goal} → "; AT=f"(i : ℕ) → i ≡ rowOf (r .verdict) → "
-    val={**val,**{i:f"y{i}" for i in ys},L.r:Rul.val("r")}
-    w.ctx=list(ctx); start=(ctx,LT,val,held)
-    w.emit(f"use0 W (raw ({rows.at()} .pre (to-rows r))) (asked-rows r r-is) $\n"); w.give(0,["pre"])
-    called(w,rows,"(to-rows r)","(r, tt)",[w.load(L.r)],"ℕ","i","v","tt","‵ ftrue","usize","i ≡ rowOf (r .verdict)","p")
+def looks(lemma,w,LT,ctx,val,held,ys,L,codes,q,tag,hyp,names,find,at,below,make):
+    """the lemmas of a row that is looked at: its index i, of which find hears `at`, that it is below 16, the row, and what is made of it; hyp, names: what is known before"""
+    AT=f"(i : ℕ) → {at} → "; val={**val,**{i:f"y{i}" for i in ys}}
+    w.ctx=list(ctx); start=(ctx,LT,val,held); find(w)
     w.emit("drop ! $ split ! $ drop ! $\n"); w.give(2,["own"]); w.emit("peeks ! usize (Is usize) (shows 𝓤 H A usize) i (v ∷ []) (λ is. drop ! $\n"); w.give(1,[])
-    w.land(L.i,LT[L.i],"(uint-lawful 𝓤 H A W w64 .typed i _ is .0)","(ap only (is .0))"); w.keep(ctx); w.emit(f"reading r r-is e i p {given}"); one=w.text()
+    w.land(L.i,LT[L.i],"(uint-lawful 𝓤 H A W w64 .typed i _ is .0)","(ap only (is .0))"); w.keep(ctx); w.emit(f"reading-{tag} {names} i p"); one=w.text()
     w.ctx=list(ctx); start2=(ctx,LT,{**val,L.i:"vint w64 i"},held)
-    reads(w,L.i,L.mul,L.ptr,L.off,L.tmp,L.row,"(row-below (r .verdict) i p)"); w.keep(ctx); w.emit(f"changing r r-is e i p (sixteen-rows h was) (row-is h was i (row-below (r .verdict) i p)) {given}"); two=w.text()
-    more=[L.i,L.mul,L.ptr,L.off,L.tmp]; w.ctx=list(ctx); start3=(ctx,LT,{**val,**{i:f"y{i}" for i in more},L.row:Row.val(ROW)},held)
-    change(w,f"(c : Controller) → length (c .rows) ≡ 16 → {ROW} ≡ rowAt (c .rows) (rowOf (r .verdict)) → changed c x ≡ ruled c {bytes} r")
-    w.land(L.x,LT[L.x],Cha.typed("x","is"),Cha.same("x","is")); w.keep(ctx); w.emit(end)
-    lemma("-- what the ruling changes","changing",us(ys+more)+HYP+AT+f"length (h .rows) ≡ 16 → {Row.is_(ROW)} → "+pre,f"changing r r-is e i p sixteen k-is {given}",codes[2],q,start3,w.text())
-    lemma("-- the row is read","reading",us(ys)+HYP+AT+pre,f"reading r r-is e i p {given}",codes[1],q,start2,two)
-    lemma("-- the row to look at","finding",us(ys)+HYP+pre,f"finding r r-is e {given}",codes[0],q,start,one)
+    reads(w,L.i,L.mul,L.ptr,L.off,L.tmp,L.row,below); w.keep(ctx); w.emit(f"making-{tag} {names} i p (sixteen-rows h was) (row-is h was i {below})"); two=w.text()
+    more=[i for i in L.all() if i!=L.row]; w.ctx=list(ctx); start3=(ctx,LT,{**val,**{i:f"y{i}" for i in more},L.row:Row.val(ROW)},held); make(w)
+    lemma("-- what is made of the row",f"making-{tag}",us(ys+more)+hyp+AT+f"length (h .rows) ≡ 16 → {Row.is_(ROW)} → ",f"making-{tag} {names} i p sixteen k-is",codes[2],q,start3,w.text())
+    lemma("-- the row is read",f"reading-{tag}",us(ys)+hyp+AT,f"reading-{tag} {names} i p",codes[1],q,start2,two)
+    lemma("-- the row to look at",f"finding-{tag}",us(ys)+hyp,f"finding-{tag} {names}",codes[0],q,start,one)
+def indexed(w,c,to,ask,args,ops,at):
+    """the call of c, which gives the index i"""
+    w.emit(f"use0 W (raw ({c.at()} .pre {to})) {ask} $\n"); w.give(0,["pre"]); called(w,c,to,args,ops(),"ℕ","i","v","tt","‵ ftrue","usize",at,"p")
+def changes(w,LT,ctx,x,end):
+    """the change x lands in its local, and end follows"""
+    w.land(x,LT[x],Cha.typed("x","is"),Cha.same("x","is")); w.keep(ctx); w.emit(end)
+def ruling(lemma,w,LT,ctx,val,held,ys,L,r,x,codes,q,bytes,goal,pre,given,change,end):
+    """the lemmas of a ruling r that gives the step; bytes: the frame's; pre, given: what else is known; change: the call's text, of which d is what it says"""
+    at="i ≡ rowOf (r .verdict)"; FACT=f"(c : Controller) → length (c .rows) ≡ 16 → {ROW} ≡ rowAt (c .rows) (rowOf (r .verdict)) → changed c x ≡ ruled c {bytes} r"
+    looks(lemma,w,LT,ctx,{**val,r:Rul.val("r")},held,ys,L,codes,q,"ruling",f"(r : Ruling) → {Rul.is_('r')} → ruled h {bytes} r ≡ {goal} → "+pre,f"r r-is e {given}".strip(),
+      lambda w:indexed(w,rows,"(to-rows r)","(asked-rows r r-is)","(r, tt)",lambda:[w.load(r)],at),at,"(row-below (r .verdict) i p)",lambda w:(change(w,FACT),changes(w,LT,ctx,x,end)))
 
 def frame():
     ruler=Callee("ruler","controller","Controller.frame_ruling"); changer=Callee("changer","controller","Controller.ruling_change"); carries=Callee("carries",crate,"carry"); CS=[ruler,rows,changer,carries]
     SL="sliceTy (tyRef (named 1) imm (tyInt w8))"
     LT=[Ans.mir(),"tyRef (named 0) mut rec-ty","tyBool",SL,Rul.mir(),"tyInt w64",Row.mir(),"out-ty",Con.mir(),"tyInt w64","tyPtr","tyPtr",Row.mir(),"tyRef erased mut rec-ty"]; N=len(LT)
-    L=Ruled(4,5,6,7,9,10,11,12); CELLS=[f"_{i}" for i in range(N)]; DIES=[f"d{i}" for i in range(N)]; ALL=CELLS+DIES
+    L=Look(5,6,9,10,11,12); CELLS=[f"_{i}" for i in range(N)]; DIES=[f"d{i}" for i in range(N)]; ALL=CELLS+DIES
     val={1:"vptr b o",2:"vbool good",3:"s-f"}; TF="‵ (flft κ-f q-f)"; had=["rec","tok","f","t-f"]; HELD={"rec":"‵ Rec","tok":TOK,"f":"‵ Bytes","t-f":TF}
     lemmas=[]
     def lemma(com,name,pre,lhs,code,q,start,body):
@@ -476,7 +483,7 @@ def frame():
     start=(list(w.ctx),LT,dict(val),HELD); opens(w); w.nl(); copies(w,8); closes(w)
     passed(ruler,"to-ruler","args-ruler","(asked-ruler was)",lambda:[w.load(8),w.load(2),w.load(3)],"Ruling","r",Rul.row(),f"ruled h f r ≡ {GOAL}","e")
     w.emit(Rul.peeks("r","(v ∷ [])")+"(λ is. drop ! $ split ! $\n"); w.give(2,["t-f","true"]); w.land(4,LT[4],Rul.typed("r","is"),Rul.same("r","is"))
-    HAS=["obs","bor","tok","f","t-f"]; ctx=HAS+ALL; w.keep(ctx); w.emit("finding r (ruling-is r _ is) e"); first=w.text()
+    HAS=["obs","bor","tok","f","t-f"]; ctx=HAS+ALL; w.keep(ctx); w.emit("finding-ruling r (ruling-is r _ is) e"); first=w.text()
     held={"obs":OBS("h"),"bor":BOR,"tok":TOK,"f":"‵ Bytes","t-f":TF}
     # ---- the change is carried out, and the `return`
     ys=[8,4,5,6,9,10,11,12]; start2=(ctx,LT,{**val,**{i:f"y{i}" for i in ys},7:Cha.val("x")},held); w.ctx=list(ctx)
@@ -490,7 +497,7 @@ def frame():
     def change(w,fact):
         passed(changer,f"(to-changer r ({ROW}))",f"(args-changer r ({ROW}))",f"(asked-changer r ({ROW}) r-is k-is)",lambda:[w.load(4),w.load(6),w.load(3)],"Change","x",Cha.row(),fact,"d")
         w.emit(Cha.peeks("x","(v ∷ [])")+"(λ is. drop ! $ split ! $\n"); w.give(2,["t-f","true"])
-    ruling(lemma,w,LT,ctx,val,held,[8],L,[piece(k) for k in (3,4,9)],RET,"f",GOAL,"","",change,"carrying x (change-is x _ is) (d h sixteen (ap (rowAt (h .rows)) p) ∙ e)")
+    ruling(lemma,w,LT,ctx,val,held,[8],L,4,7,[piece(k) for k in (3,4,9)],RET,"f",GOAL,"","",change,"carrying x (change-is x _ is) (d h sixteen (ap (rowAt (h .rows)) p) ∙ e)")
     lemma("-- the record is copied out, and the frame's ruling is had","ruling","","ruling",piece(1),RET,start,first)
     # ---- what is asked, and what is had at exit
     w=Walk(6); w.ctx=list(end); w.emit("nothing ! $ "); w.give(0,["t"]); w.to(["t-f","t"]); w.emit("join ! $ "); w.give(2,["t"]); w.to(["tok","t"]); w.emit("join ! $ frame ! $\n"); w.give(2,[])
@@ -612,9 +619,9 @@ def ask_carry(carries):
 """
 
 class Arm:
-    """an arm of the match: its variant, the variables of its pattern, the function that it calls, and its step; rules: the function gives a ruling"""
-    def __init__(self,con,vars,home,p,step,frame=False,room=False,rules=False):
-        self.con=con; self.low=p.split(".")[-1].replace("plan_",""); self.vars=vars; self.fn=Callee(self.low+"s",home,p); self.step=step; self.frame=frame; self.room=room; self.rules=rules; self.reads=con=="Read"
+    """an arm of the match: its variant, the variables of its pattern, the function that it calls, and its step; rules: the function gives a ruling; window: it is given the control state and a row"""
+    def __init__(self,con,vars,home,p,step,frame=False,room=False,rules=False,window=False):
+        self.con=con; self.low=con.lower() if window else p.split(".")[-1].replace("plan_",""); self.window=window; self.vars=vars; self.fn=Callee(self.low+"s",home,p); self.step=step; self.frame=frame; self.room=room; self.rules=rules; self.reads=con=="Read"
     def names(self): return [n for n,k in self.vars]
     def pat(self): return par(" ".join([self.con]+self.names()))
     def binders(self): return "".join(f"({n} : {den(k)}) " for n,k in self.vars)
@@ -630,22 +637,24 @@ owned=lambda n,k:(f"owned ! u8 (Is u8) (uint-makes 𝓤 H A W w8) {n} _ (refl, {
 def step():
     Syn=Decl("SyncKind","Sync-row","enum","rules",False); Syn.den="SyncKind"; Fau=Decl("Fault","Fault-row","enum","rules",False); Fau.den="FaultKind"
     con="controller"; plan=lambda x:"Controller.plan_"+x
-    ARMS=[Arm("Reset",[],con,plan("reset"),"reset"),Arm("Read",[("n","u8")],crate,"read","read n"),Arm("Write",[("n","u8"),("u","u8")],con,plan("write"),"write n u"),Arm("Sync",[("k",Syn)],con,plan("sync"),"sync k"),Arm("SyncDue",[],con,plan("due"),"syncDue"),
+    ARMS=[Arm("Reset",[],con,plan("reset"),"reset"),Arm("Read",[("n","u8")],con,"Controller.read_answer","read n",window=True),Arm("Write",[("n","u8"),("u","u8")],con,"Controller.write_change","write n u",window=True),Arm("Sync",[("k",Syn)],con,plan("sync"),"sync k"),Arm("SyncDue",[],con,plan("due"),"syncDue"),
       Arm("Slot",[("n","u8")],con,plan("slot"),"slot n room",room=True),Arm("Frame",[("good","bool")],crate,"ruling","frameStep good (bytesIn f)",frame=True,rules=True),Arm("Fault",[("k",Fau)],con,plan("fault"),"fault k"),Arm("Timeout",[],con,plan("timeout"),"timeout")]
-    carries=Callee("carries",crate,"carry"); frameds=Callee("frameds",crate,"framed"); CS=[a.fn for a in ARMS]+[rows,frameds,carries]
+    carries=Callee("carries",crate,"carry"); frameds=Callee("frameds",crate,"framed"); windows=Callee("windows",con,"Controller.window_row"); CS=[a.fn for a in ARMS]+[rows,windows,frameds,carries]
     # ---- the locals, as the arms have them: their variables and the change, the answer, and what the calls want
     byte="tyInt w8"; ref="tyRef erased mut rec-ty"; lty=lambda k:byte if k=="u8" else "tyBool" if k=="bool" else k.mir()
     LT=[Ans.mir(),"tyRef (named 0) mut rec-ty",Cal.mir(),Fra.mir(),"sliceTy (tyRef (named 1) mut (tyInt w8))"]
     def local(ty): LT.append(ty); return len(LT)-1
     for a in ARMS:
         a.locs=[local(lty(k)) for n,k in a.vars]
-        if a.rules: a.r=local(Rul.mir()); a.i=local("tyInt w64"); a.row=local(Row.mir())
+        if a.rules: a.r=local(Rul.mir())
+        if a.window: a.d=local(Ctl.mir())
+        if a.rules or a.window: a.i=local("tyInt w64"); a.row=local(Row.mir())
         if not a.reads: a.out=local("out-ty")
     ANS=local(Ans.mir())
     for a in ARMS:
-        a.copy=local(Con.mir())
+        if not a.window: a.copy=local(Con.mir())
         if a.room: a.ptr=local("tyRef erased mut (tyInt w8)"); a.agg=local("sliceTy (tyRef erased mut (tyInt w8))")
-        if a.rules: a.L=Ruled(a.r,a.i,a.row,a.out,local("tyInt w64"),local("tyPtr"),local("tyPtr"),local(Row.mir()))
+        if a.rules or a.window: a.L=Look(a.i,a.row,local("tyInt w64"),local("tyPtr"),local("tyPtr"),local(Row.mir()))
         if not a.reads: a.ref=local(ref)
     N=len(LT)
     CELLS=[f"_{i}" for i in range(N)]; DIES=[f"d{i}" for i in range(N)]; ALL=CELLS+DIES
@@ -676,10 +685,13 @@ def step():
     def ended(filled,c,m,zs,facts):
         """the arm's end: its locals are forgotten"""
         w.emit(f"exec ! C Λ En pieces.t-2 ({RET}) $ "+"".join(f"forget ! {w.cell(i)} refl $ " for i in filled)); w.nl(); w.keep(end+ALL); w.emit(f"answered {c} {m} {zs} {facts}")
+    def unpassed(w):
+        """the room is not passed: what it has is its last value"""
+        w.to(["room"]); w.emit("fsplit ! $ move ! (1 ∷ []) $ fsplit ! $\nuse1 W (‵ (fres γ-room (codedHoleys u8 .code (heres u8 room)))) (W .names .obs-res γ-room (codedHoleys u8 .code (heres u8 room))) $ use1 W (‵ (finally u8 γ-room room)) (res-finally 𝓤 H A W (named 1) κ-room u8 γ-room room) $\n"); w.give(1,["fin","bor-room","said-room"])
     # ---- the arms
     HAS=["obs","bor","tok","t-room","fin"]
     for a in ARMS:
-        mine=a.locs+([] if a.reads else [a.out])+[a.copy]+([a.ptr,a.agg] if a.room else [])+([i for i in a.L.all() if i!=a.out] if a.rules else [])
+        mine=a.locs+([] if a.reads else [a.out])+([a.d] if a.window else [a.copy])+([a.ptr,a.agg] if a.room else [])+([a.r] if a.rules else [])+(a.L.all() if a.rules or a.window else [])
         zs="(ws .1 .1 .0)" if a.room else "room"; given=" ".join(a.names()+a.given())
         if not a.reads:
             # the change is carried out, the record being lent again at its own lifetime
@@ -697,7 +709,26 @@ def step():
             def change(w,fact):
                 w.emit(f"use0 W (raw ({frameds.at()} .pre (to-framed r ({ROW})))) (asked-framed r ({ROW}) r-is k-is) $\n"); w.give(0,["pre"])
                 called(w,frameds,f"(to-framed r ({ROW}))",f"(args-framed r ({ROW}))",[w.load(a.r),w.load(a.row),w.load(3)],"Change","x","v","tt","‵ ftrue",Cha.row(),fact,"d"); kept_as(w,Cha,"x")
-            ruling(lemma,w,LT,HAS+ALL,val,{"obs":OBS("h"),"bor":BOR,"tok":TOK,"t-room":TROOM,"fin":FIN.replace("zs","room")},[2]+a.locs+[a.copy],a.L,["code-finding","code-reading","code-framing"],NEXT,"(bytesIn f)",f"doneOf (stepOf h ({STEP}))","room ≡ roomFor h call room → ","z",change,f"carried-{a.low} x (change-is x _ is) (d h sixteen (ap (rowAt (h .rows)) p) ∙ e) room z refl")
+            ruling(lemma,w,LT,HAS+ALL,val,{"obs":OBS("h"),"bor":BOR,"tok":TOK,"t-room":TROOM,"fin":FIN.replace("zs","room")},[2]+a.locs+[a.copy],a.L,a.r,a.out,codes("ruling"),NEXT,"(bytesIn f)",f"doneOf (stepOf h ({STEP}))","room ≡ roomFor h call room → ","z",change,f"carried-{a.low} x (change-is x _ is) (d h sixteen (ap (rowAt (h .rows)) p) ∙ e) room z refl")
+        if a.window:
+            # the control state is read, then the row to look at; the room is not passed
+            held={"obs":OBS("h"),"bor":BOR,"tok":TOK,"t-room":TROOM,"fin":FIN.replace("zs","room")}; known_={**val,**{i:value(n,k) for i,(n,k) in zip(a.locs,a.vars)},a.d:Ctl.val("h .control")}
+            at="i ≡ windowRow (h .control) (registerAt n)"; hyp=a.binders()+"→ "+a.facts()+f"{Ctl.is_('h .control')} → {a.step} ≡ {STEP} → room ≡ roomFor h call room → "; names=given+" d-is s z"
+            FACT=f"(c : Controller) → c .control ≡ h .control → length (c .rows) ≡ 16 → {ROW} ≡ rowAt (c .rows) (windowRow (h .control) (registerAt n)) → "; G_=f"g h refl sixteen (ap (rowAt (h .rows)) p)"
+            def make(w):
+                res,T,D,says=("m","Answer",Ans,f"record {{ next = c; answer = m }} ≡ doneOf (stepOf c ({a.step}))") if a.reads else ("x","Change",Cha,f"changed c x ≡ doneOf (stepOf c ({a.step}))")
+                k=" ".join(a.names()+[par(ROW)]); w.emit(f"use0 W (raw ({a.fn.at()} .pre (to-{a.low} {k}))) (asked-{a.low} {k} {' '.join(a.given())} d-is k-is) $\n"); w.give(0,["pre"])
+                called(w,a.fn,f"(to-{a.low} {k})",f"(args-{a.low} {k})",[w.load(i) for i in [a.d]+a.locs+[a.row]],T,res,"v","tt","‵ ftrue",D.row(),FACT+says,"g",last=a.reads); kept_as(w,D,res)
+                if a.reads:
+                    w.land(ANS,LT[ANS],Ans.typed("m","is"),Ans.same("m","is"),last=True); w.to(["obs"]); w.emit("use1 W (‵ (fres γ (T.the-row .coded .code h))) (W .names .obs-res γ (T.the-row .coded .code h)) $\n"); w.give(1,["res"])
+                    ended(sorted(mine),"h","m","room",f"(ap (λ (u : Done). u .next) ({G_}) ∙ ap next s, ap (λ (u : Done). u .answer) ({G_}) ∙ ap answer s, z) (answer-is m _ is) refl")
+                else: changes(w,LT,HAS+ALL,a.out,f"carried-{a.low} x (change-is x _ is) ({G_} ∙ ap (λ (s : Step). doneOf (stepOf h s)) s) room z refl")
+            looks(lemma,w,LT,HAS+ALL,known_,held,[2],a.L,codes(a.low),NEXT,a.low,hyp,names,lambda w:indexed(w,windows,"(to-windows n)","(asked-windows n n-fits d-is)","(h .control, (n, tt))",lambda:[w.load(a.d),w.load(a.locs[0])],at),at,"(window-below (h .control) (registerAt n) i p)",make)
+            w.ctx=list(base); start=(base,LT,{**val,2:"y2",**{i:value(n,k) for i,(n,k) in zip(a.locs,a.vars)}},HELD)
+            opens(w); w.nl(); w.to(["cell"]); w.emit("use1 W ("+FAT("h")+") (W .laws .raw-at fullShare T′.mir b o (mach h)) $\n")
+            w.assign(f"(of-opd ! (load ! (from ! (hop ! (look ! {w.cell(1)} refl) (fld ! refl (stop !)))) (look-in ! {w.at('cell')} (sub ! 0 refl (whole !)))))",a.d,Ctl.typed("h .control","control-is h was"))
+            w.to(["cell"]); w.emit(raws("h")+"\n"); closes(w); unpassed(w); w.keep(HAS+ALL); w.emit(f"finding-{a.low} {given} (control-is h was) s z")
+            lemma(f"-- {a.con}",f"on-{a.low}",us([2])+a.binders()+"→ "+a.facts()+f"{a.step} ≡ {STEP} → room ≡ roomFor h call room → ",f"on-{a.low} {given} s z",f"code-{a.low}",NEXT,start,w.text()); continue
         # the borrow is opened for the copy, and the function is called
         w.ctx=list(base); start=(base,LT,{**val,2:"y2",**{i:value(n,k) for i,(n,k) in zip(a.locs,a.vars)}},HELD)
         opens(w); w.nl(); copies(w,a.copy); closes(w)
@@ -706,16 +737,14 @@ def step():
             w.again(4,a.ptr,a.agg,"room-room"); w.to(["t-room","room"])
             w.emit(f"group ! 2 $ use1 W (raw ({a.fn.at()} .pre {a.to()})) {ask} $\n"); w.give(2,["pre"])
         else:
-            # the room is not passed: what it has is its last value
-            w.to(["room"]); w.emit("fsplit ! $ move ! (1 ∷ []) $ fsplit ! $\nuse1 W (‵ (fres γ-room (codedHoleys u8 .code (heres u8 room)))) (W .names .obs-res γ-room (codedHoleys u8 .code (heres u8 room))) $ use1 W (‵ (finally u8 γ-room room)) (res-finally 𝓤 H A W (named 1) κ-room u8 γ-room room) $\n"); w.give(1,["fin","bor-room","said-room"])
-            if a.reads: w.to(["obs"]); w.emit("use1 W (‵ (fres γ (T.the-row .coded .code h))) (W .names .obs-res γ (T.the-row .coded .code h)) $\n"); w.give(1,["res"])
+            unpassed(w)
             w.emit(f"use0 W (raw ({a.fn.at()} .pre {a.to()})) {ask} $\n"); w.give(0,["pre"])
         ops=[w.load(a.copy)]+[w.load(i) for i in a.locs]+([w.load(3)] if a.frame else [w.load(a.agg)] if a.room else [])
-        says=f"m ≡ answer ({a.step})" if a.reads else f"changed h x ≡ doneOf (stepOf h ({a.step}))"
+        says=f"changed h x ≡ doneOf (stepOf h ({a.step}))"
         if a.rules: says=f"ruled h (bytesIn f) r ≡ doneOf (stepOf h ({a.step}))"
         if a.room: says=[says,f"{zs} ≡ stepOf h ({a.step}) .room"]
-        res,T,D=("m","Answer",Ans) if a.reads else ("r","Ruling",Rul) if a.rules else ("x","Change",Cha)
-        called(w,a.fn,a.to(),a.args(),ops,T,res,"v","(κ-room, tt)" if a.room else "tt",f"({TROOM} ⊛ ‵ ftrue)" if a.room else "‵ ftrue",D.row(),says,["e","z₁"] if a.room else "e",last=a.reads)
+        res,T,D=("r","Ruling",Rul) if a.rules else ("x","Change",Cha)
+        called(w,a.fn,a.to(),a.args(),ops,T,res,"v","(κ-room, tt)" if a.room else "tt",f"({TROOM} ⊛ ‵ ftrue)" if a.room else "‵ ftrue",D.row(),says,["e","z₁"] if a.room else "e")
         w.ctx=["lasts","out"]+w.ctx[2:]
         if a.room:
             w.emit("fsplit ! $ drop ! $ "*(1+len(a.vars))+"fsplit ! $ fsplit ! $ move ! (1 ∷ []) $ feqL ! (λ l.\n"); w.give(1,["fin","true"])
@@ -723,10 +752,9 @@ def step():
         else: w.emit("drop ! $ split ! $ drop ! $\n"); w.give(2,["own"])
         w.emit(D.peeks(res,"(v ∷ [])")+"(λ is. drop ! $"+(" split ! $" if a.room else "")+"\n"); w.give(1,[])
         if a.room: w.give(1,["t-room","true2"])
-        k=ANS if a.reads else a.r if a.rules else a.out
-        w.land(k,LT[k],D.typed(res,"is"),D.same(res,"is"),last=a.reads)
-        if a.reads: ended(sorted(mine),"h","m","room","(sym (read-unchanged h n) ∙ ap next s, e ∙ ap answer s, z) (answer-is m _ is) refl")
-        elif a.rules: w.keep(HAS+ALL); w.emit("finding r (ruling-is r _ is) (e ∙ ap (λ (s : Step). doneOf (stepOf h s)) s) z")
+        k=a.r if a.rules else a.out
+        w.land(k,LT[k],D.typed(res,"is"),D.same(res,"is"))
+        if a.rules: w.keep(HAS+ALL); w.emit("finding-ruling r (ruling-is r _ is) (e ∙ ap (λ (s : Step). doneOf (stepOf h s)) s) z")
         else: w.keep(HAS+ALL); w.emit(f"carried-{a.low} x (change-is x _ is) (e ∙ ap (λ (s : Step). doneOf (stepOf h s)) s) {zs} {'(z₁ ∙ z) l' if a.room else 'z refl'}")
         left=f"stepOf h ({a.step}) .room" if a.room else "room"
         lemma(f"-- {a.con}",f"on-{a.low}",us([2])+(a.binders() if a.vars else "")+"→ "+a.facts()+f"{a.step} ≡ {STEP} → {left} ≡ roomFor h call room → ",f"on-{a.low} {given} s z".replace("  "," "),f"code-{a.low}",NEXT,start,w.text())
@@ -744,6 +772,18 @@ def step():
     w.emit("nothing ! $ "); w.give(0,["X"]); w.to(["fin","X"]); w.emit("fjoin ! $ "); w.give(2,["X"]); w.emit(Fra.owned("f","f-is")+"fjoin ! $ "+Cal.owned("call","call-is")+"fjoin ! $ "); w.to(["res","X"]); w.emit("fjoin ! $ frame ! $ "+Ans.owned("m","g")+"done !"); exits=w.text()
     CLOSE="move ! (1 ∷ 0 ∷ []) $ join ! $ nothing ! $ move ! (1 ∷ 0 ∷ []) $ join ! $ done !"
     def asks(a):
+        if a.window:
+            ty=" × (".join(["Control"]+[den(k) for n,k in a.vars]+["Contents","Unit {0}"])+")"*(len(a.vars)+2); bs="".join(f"{den(k)} → " for n,k in a.vars)+"Contents → "; ns=" ".join(a.names()+["k"])
+            own="".join(owned(n,k) for n,k in reversed(a.vars))
+            return f"""  abbrev args-{a.low} : {bs}{ty}
+  args-{a.low} {ns} = {tup(["h .control"]+a.names()+["k"])}
+
+  abbrev to-{a.low} : {bs}{a.fn.at()} .Ghost
+  to-{a.low} {ns} = ((tt, tt, tt, args-{a.low} {ns}, {tup([Ctl.val("h .control")+" ∷ []"]+[value(n,k)+" ∷ []" for n,k in a.vars]+[Row.val("k")+" ∷ []"])}), tt)
+
+  asked-{a.low} : {a.binders()}(k : Contents) → {a.facts()}{Ctl.is_("h .control")} → {Row.is_("k")} → ent 𝓤 (emp 𝓤) ({a.fn.at()} .pre (to-{a.low} {ns}))
+  asked-{a.low} {ns} {' '.join(a.given())} d-is k-is = qed W [] ∵ nothing ! $ nothing ! $ {Row.owned("k","k-is")}fjoin ! $ {own}{Ctl.owned("h .control","d-is")}fjoin ! $ {CLOSE}
+"""
         ty=" × (".join(["Controller"]+[den(k) for n,k in a.vars]+(["FrameBytes"] if a.frame else ["RefT (List ℕ)"] if a.room else [])+["Unit {0}"])+")"*(len(a.vars)+1+(a.frame or a.room))
         xs=["h"]+a.names()+(["f"] if a.frame else ["room-ref"] if a.room else [])
         vs=["mach h ∷ []"]+[value(n,k)+" ∷ []" for n,k in a.vars]+([Fra.val("f")+" ∷ []"] if a.frame else ["s-room ∷ []"] if a.room else [])
@@ -765,12 +805,15 @@ def step():
 """
     GL="(κ, (κ-room, tt))"; GQ="(q, (q-room, tt))"; bound=f"(({GL}, {GQ}, tt, a, at), tt)"
     def code(a):
+        if a.window:
+            made=f"callᴹ #{a.fn.a} ({' ∷ '.join([cp(i) for i in [a.d]+a.locs+[a.row]]+['[]'])}) (placeᴹ {ANS if a.reads else a.out} [])"
+            return a.L.code(a.low,f"callᴹ #windows ({cp(a.d)} ∷ {cp(a.locs[0])} ∷ [])",made if a.reads else f"seqᴹ ({made}) (carrying {a.ref} {a.out})")+f"\nabbrev code-{a.low} : Bodyᴹ\ncode-{a.low} = seqᴹ (assignᴹ (placeᴹ {a.d} []) (rvOpd (copyᴹ (placeᴹ 1 (deref T′.mir ∷ fieldᴹ 0 ∷ []))))) code-finding-{a.low}\n"
         ops=" ∷ ".join([cp(a.copy)]+[cp(i) for i in a.locs]+([cp(3)] if a.frame else [cp(a.agg)] if a.room else [])+["[]"])
-        c=f"callᴹ #{a.fn.a} ({ops}) (placeᴹ {ANS if a.reads else a.r if a.rules else a.out} [])"
-        if a.rules: c=f"seqᴹ ({c}) code-finding"
-        elif not a.reads: c=f"seqᴹ ({c}) (carrying {a.ref} {a.out})"
+        c=f"callᴹ #{a.fn.a} ({ops}) (placeᴹ {a.r if a.rules else a.out} [])"
+        if a.rules: c=f"seqᴹ ({c}) code-finding-ruling"
+        else: c=f"seqᴹ ({c}) (carrying {a.ref} {a.out})"
         if a.room: c=f"seqᴹ (assignᴹ (placeᴹ {a.ptr} []) (addrOf (placeᴹ 4 (fieldᴹ 0 ∷ deref (tyInt w8) ∷ [])))) (seqᴹ (assignᴹ (placeᴹ {a.agg} []) (aggregate ({cp(a.ptr)} ∷ copyᴹ (placeᴹ 4 (fieldᴹ 1 ∷ [])) ∷ []))) ({c}))"
-        found=f"abbrev code-framing : Bodyᴹ\ncode-framing = seqᴹ (callᴹ #frameds ({cp(a.r)} ∷ {cp(a.row)} ∷ {cp(3)} ∷ []) (placeᴹ {a.out} [])) (carrying {a.ref} {a.out})\n\n{a.L.code('code-framing')}\n" if a.rules else ""
+        found=a.L.code("ruling",f"callᴹ #rows ({cp(a.r)} ∷ [])",f"seqᴹ (callᴹ #frameds ({cp(a.r)} ∷ {cp(a.row)} ∷ {cp(3)} ∷ []) (placeᴹ {a.out} [])) (carrying {a.ref} {a.out})")+"\n" if a.rules else ""
         return found+f"abbrev code-{a.low} : Bodyᴹ\ncode-{a.low} = copied {a.copy} ({c})\n"
     def armcode(key,a):
         c=f"code-{a.low}"
@@ -780,20 +823,19 @@ def step():
     for key,a in reversed(list(enumerate(ARMS))): match=f"armᴹ ({key} ∷ []) arm-{a.low} {par(match)}"
     body="\n".join(lemmas); nl=chr(10)
     put(f"""-- `lent::step` meets its contract: a walk of its MIR. The switch goes by cases on the call: the tag is then a numeral, and only the arm that runs is walked. In an arm the borrow is opened for a copy of the record and closed at the same record.
--- A read's answer is had from the copy. For any other call the copy gives the change, and the reference goes on to `carry` at its own lifetime, which gives back what says its last value. The room goes on to `plan_slot` in the same way; where
+-- A register call opens it for the control state and for the one row that its window shows, a frame for the row that its ruling names. A change goes on to `carry` with the reference at its own lifetime, which gives back what says its last value. The room goes on to `plan_slot` in the same way; where
 -- it is not passed, its last value is the one that it has. All that the proof knows of these functions is that they meet their contracts. Written by tools/gen_lent.py.
 {HEAD}
 use Rattle.rules.specs.Steps.{{Step, reset, read, write, sync, syncDue, slot, frame as frameStep, fault, timeout}}
 use Rattle.controller.specs.declared.Done.{{Done}}
 use Rattle.controller.specs.declared.Call.the-variants.{{{", ".join(a.con for a in ARMS)}}}
 use Rattle.controller.specs.Session.{{stepOf}}
-use Rattle.controller.specs.Unchanged.{{read-unchanged}}
 use Rattle.controller.specs.Code.{{doneOf, changed, stepFor, roomFor, bytesIn}}
 {LOOK}
-{nl.join(d.uses() for d in (Con,Cha,Cal,Fra,Rul,Row,Syn))}
+use Rattle.rules.specs.Registers.{{registerAt}}
+{nl.join(d.uses() for d in (Con,Cha,Cal,Fra,Rul,Ctl,Row,Syn))}
 {Fau.uses().replace("{Fault}","{Fault as FaultKind}")}
 {Ans.uses()}
-use Rattle.rules.proofs.Control.Laws as {Ctl.a}′
 {nl.join(c.uses() for c in CS)}
 {THIS}
 
@@ -873,6 +915,12 @@ module _ {G} (W : Given 𝓤 H A) {AM} (κ κ-room : Lft) (q q-room : Share) (b 
   -- what the triples bind outside, and what they ask
 {nl.join(asks(a) for a in ARMS)}
 {ASK_ROWS}
+  abbrev to-windows : ℕ → {windows.at()} .Ghost
+  to-windows n = ((tt, tt, tt, (h .control, (n, tt)), ({Ctl.val("h .control")} ∷ [], (vint w8 n ∷ [], tt))), tt)
+
+  asked-windows : (n : ℕ) → n < 2 ^ 8 → {Ctl.is_("h .control")} → ent 𝓤 (emp 𝓤) ({windows.at()} .pre (to-windows n))
+  asked-windows n n-fits d-is = qed W [] ∵ nothing ! $ nothing ! $ {owned("n","u8")}{Ctl.owned("h .control","d-is")}fjoin ! $ {CLOSE}
+
   abbrev args-framed : Ruling → Contents → Ruling × (Contents × (FrameBytes × Unit {{0}}))
   args-framed r k = (r, (k, (f, tt)))
 

@@ -67,11 +67,14 @@ module _ (rows : List Contents) (n : ℕ) where
   bytes-out h = sym (pick-false (ltb n 16) _ _ (le-ltb n 16 h))
 
   -- row being the one to look at for it
-  pub row-bytes : (row : Contents) → n < 16 → row ≡ rowAt rows (n % 16) → row .bytes ≡ rowBytes rows n
-  row-bytes row h e = ap (λ (b : Contents). b .bytes) (e ∙ ap (rowAt rows) small) ∙ bytes-in h
+  pub row-own : (row : Contents) → n < 16 → row ≡ rowAt rows (n % 16) → row ≡ rowAt rows n
+  row-own row h e = e ∙ ap (rowAt rows) small
     where
       small : n % 16 ≡ n
       small = omega arith
+
+  pub row-bytes : (row : Contents) → n < 16 → row ≡ rowAt rows (n % 16) → row .bytes ≡ rowBytes rows n
+  row-bytes row h e = ap (λ (b : Contents). b .bytes) (row-own row h e) ∙ bytes-in h
 
 no-frame : frameOf (record { bytes = replicate 14 0 }) ≡ frameOf noContents
 unfolding frameOf bytesFrom

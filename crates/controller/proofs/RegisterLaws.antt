@@ -13,6 +13,7 @@ use denote.Enum.Declared.{tagOf}
 use Rattle.contents.proofs.Contents.{the-type as the-contents}
 use Rattle.contents.specs.declared.Contents.{Contents}
 use Rattle.contents.specs.Bytes.{noContents}
+use Rattle.rules.specs.declared.Control.{Control}
 use Rattle.rules.proofs.Register.{the-type as the-register}
 use Rattle.rules.specs.declared.Register.{Register}
 use Rattle.rules.specs.declared.Register.the-variants.{Mcr, Fsizr, Tcr1, Tcr2, Tcr3, Risr, Gisr, Rier, Gier, Rivec, Tivec, Fidac, Fidmr, Mvr, Pctlbf, Buflock, Fidrj, Fidrmr, TransmitWindow, ReceiveWindow, FifoWindow, Bufctl, Reserved}
@@ -20,7 +21,7 @@ use Rattle.rules.specs.Reads.{valueOf}
 use Rattle.controller.specs.declared.Controller.{Controller}
 use Rattle.controller.specs.declared.FrameBytes.{FrameBytes}
 use Rattle.controller.specs.Carry.{rowAt}
-use Rattle.controller.specs.Code.{windowByte, registerValue, writePlace, writeWindow, writtenRows, rowBytes}
+use Rattle.controller.specs.Code.{holderOf, windowByte, registerValue, writePlace, writeWindow, writtenRows, rowBytes}
 use Rattle.controller.proofs.EventLaws.{bytes-in}
 use Rattle.controller.proofs.Controller.{the-type as the-controller}
 use Rattle.controller.proofs.FrameBytes.{the-type as the-frame}
@@ -63,6 +64,32 @@ allButWindows = 0 ∷ 1 ∷ 2 ∷ 3 ∷ 4 ∷ 5 ∷ 6 ∷ 7 ∷ 8 ∷ 9 ∷ 10 �
 
 abbrev allButWritable : List ℕ
 allButWritable = 0 ∷ 1 ∷ 2 ∷ 3 ∷ 4 ∷ 5 ∷ 6 ∷ 7 ∷ 8 ∷ 9 ∷ 10 ∷ 11 ∷ 12 ∷ 13 ∷ 14 ∷ 15 ∷ 16 ∷ 17 ∷ 20 ∷ 21 ∷ 22 ∷ []
+
+pub no-holder : (c : Control) (r : Register) → OneOf allButWindows (tagOf the-register r) → 16 ≡ holderOf c r
+unfolding holderOf
+no-holder c Mcr h = refl
+no-holder c Fsizr h = refl
+no-holder c Tcr1 h = refl
+no-holder c Tcr2 h = refl
+no-holder c Tcr3 h = refl
+no-holder c Risr h = refl
+no-holder c Gisr h = refl
+no-holder c Rier h = refl
+no-holder c Gier h = refl
+no-holder c Rivec h = refl
+no-holder c Tivec h = refl
+no-holder c Fidac h = refl
+no-holder c Fidmr h = refl
+no-holder c Mvr h = refl
+no-holder c Pctlbf h = refl
+no-holder c Buflock h = refl
+no-holder c Fidrj h = refl
+no-holder c Fidrmr h = refl
+no-holder c (TransmitWindow p) h = absurd (miss allButWindows 18 tt h)
+no-holder c (ReceiveWindow p) h = absurd (miss allButWindows 19 tt h)
+no-holder c (FifoWindow p) h = absurd (miss allButWindows 20 tt h)
+no-holder c (Bufctl n) h = refl
+no-holder c Reserved h = refl
 
 module _ (c : Controller) where
   pub other-value : (r : Register) → OneOf allButWindows (tagOf the-register r) → valueOf (c .control) r ≡ registerValue c r

@@ -79,6 +79,36 @@ ruled c f r = record { next = record { control = r .next; rows = rowsBy (c .rows
 unfoldable pub windowByte : List Contents → ℕ → ℕ → ℕ
 windowByte rows n p = getD (rowAt rows n .bytes) p 0
 
+-- the holder of a register's window, 16 for a register that is no place of a window
+unfoldable pub holderOf : Control → Register → ℕ
+holderOf c Mcr = 16
+holderOf c Fsizr = 16
+holderOf c Tcr1 = 16
+holderOf c Tcr2 = 16
+holderOf c Tcr3 = 16
+holderOf c Risr = 16
+holderOf c Gisr = 16
+holderOf c Rier = 16
+holderOf c Gier = 16
+holderOf c Rivec = 16
+holderOf c Tivec = 16
+holderOf c Fidac = 16
+holderOf c Fidmr = 16
+holderOf c Mvr = 16
+holderOf c Pctlbf = 16
+holderOf c Buflock = 16
+holderOf c Fidrj = 16
+holderOf c Fidrmr = 16
+holderOf c (TransmitWindow p) = c .transmit .holder
+holderOf c (ReceiveWindow p) = c .receive .holder
+holderOf c (FifoWindow p) = fifoHolder c
+holderOf c (Bufctl n) = 16
+holderOf c Reserved = 16
+
+-- the row to look at for it: that of the holder, and any other where there is none
+abbrev pub windowRow : Control → Register → ℕ
+windowRow c r = holderOf c r % 16
+
 -- what a register of the controller reads
 unfoldable pub registerValue : Controller → Register → ℕ
 registerValue c Mcr = valueOf (c .control) Mcr

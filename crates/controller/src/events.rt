@@ -60,7 +60,7 @@ fn store_frame(b: [u8; 14], f: &[u8]) -> [u8; 14]
 }
 
 // The row to look at for buffer n: its own, and any other past the last.
-fn row_at(n: u8) -> usize
+pub(crate) fn row_at(n: u8) -> usize
     ensures { λ i. ⌜ i ≡ n % 16 ⌝ }
 {
     n as usize % 16

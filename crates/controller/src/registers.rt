@@ -1,15 +1,22 @@
 // Reset, and the register calls.
 ghost use mathlib.Core.Path.{_≡_};
+ghost use Prim.Native.Nat.{_%_};
+ghost use mathlib.Core.List.{List};
+ghost use lib.ListN.{length};
+ghost use Rattle.contents.specs.declared.Contents.{Contents};
+ghost use Rattle.rules.specs.Registers.{registerAt};
 ghost use Rattle.rules.specs.declared.Answer.the-variants.{Ok};
 ghost use Rattle.rules.specs.Steps.Step.{reset, read, write};
-ghost use Rattle.controller.specs.Carry.{resetState};
+ghost use Rattle.controller.specs.declared.Controller.{Controller};
+ghost use Rattle.controller.specs.Carry.{resetState, rowAt};
 ghost use Rattle.controller.specs.Session.{stepOf};
-ghost use Rattle.controller.specs.Code.{doneOf, changed, windowByte, registerValue, writePlace, writeWindow, writtenRows};
+ghost use Rattle.controller.specs.Code.{doneOf, answered, changed, holderOf, windowRow, windowByte, registerValue, writePlace, writeWindow, writtenRows};
 use crate::Change;
 use crate::Controller;
 use crate::Done;
 use crate::changes::with_answer;
 use crate::changes::with_bytes;
+use crate::events::row_at;
 use contents::Contents;
 use filter::Filter;
 use locks::Locks;
@@ -33,6 +40,63 @@ fn write_place(b: [u8; 14], p: u8, v: u8) -> [u8; 14]
         return contents::with_length(b, v % 16);
     }
     contents::with_data(b, p - 2, v)
+}
+
+// The holder of a register's window, 16 for a register that is no place of a window.
+fn holder_of(c: Control, register: Register) -> u8
+    ensures { λ n. ⌜ n ≡ holderOf c register ⌝ }
+{
+    match register {
+        Register::TransmitWindow(_) => c.transmit.holder,
+        Register::ReceiveWindow(_) => c.receive.holder,
+        Register::FifoWindow(_) => status::kinds::fifo_holder(c),
+        _ => 16,
+    }
+}
+
+// Place p of the window whose holder is n, 0 with no holder, the row to look at for n being row.
+fn window_byte(n: u8, p: u8, row: Contents) -> u8
+    ensures { λ r. ⌜ ((rows : List Contents) → length rows ≡ 16 → row ≡ rowAt rows (n % 16) → r ≡ windowByte rows n p) ⌝ }
+{
+    if 16 <= n {
+        return 0;
+    }
+    let b = row.bytes;
+    contents::byte_at(b, p)
+}
+
+// What a register reads, the control state being c and the row to look at row.
+fn register_value(c: Control, register: Register, row: Contents) -> u8
+    ensures { λ r. ⌜ ((d : Controller) → d .control ≡ c → length (d .rows) ≡ 16 → row ≡ rowAt (d .rows) (windowRow c register) → r ≡ registerValue d register) ⌝ }
+{
+    match register {
+        Register::TransmitWindow(p) => window_byte(c.transmit.holder, p, row),
+        Register::ReceiveWindow(p) => window_byte(c.receive.holder, p, row),
+        Register::FifoWindow(p) => window_byte(status::kinds::fifo_holder(c), p, row),
+        _ => status::reads::value_of(c, register),
+    }
+}
+
+// The window of buffer n, 16 or more for none, with place p written over its row, the control state being c.
+fn write_window(c: Control, n: u8, p: u8, v: u8, row: Contents) -> Change
+    ensures { λ x. ⌜ ((d : Controller) → length (d .rows) ≡ 16 → row ≡ rowAt (d .rows) (n % 16) → changed d x ≡ record { next = record { control = c; rows = writeWindow (d .rows) n p v }; answer = Ok }) ⌝ }
+{
+    if 16 <= n {
+        return with_answer(c, Answer::Ok);
+    }
+    let b = row.bytes;
+    with_bytes(c, n, write_place(b, p, v), Answer::Ok)
+}
+
+// The write of a register that gives the control state c, the holders being those of the control state before it.
+fn write_rows(holders: Control, c: Control, register: Register, v: u8, row: Contents) -> Change
+    ensures { λ x. ⌜ ((d : Controller) → d .control ≡ holders → length (d .rows) ≡ 16 → row ≡ rowAt (d .rows) (windowRow holders register) → changed d x ≡ record { next = record { control = c; rows = writtenRows d register v }; answer = Ok }) ⌝ }
+{
+    match register {
+        Register::TransmitWindow(p) => write_window(c, holders.transmit.holder, p, v, row),
+        Register::ReceiveWindow(p) => write_window(c, holders.receive.holder, p, v, row),
+        _ => with_answer(c, Answer::Ok),
+    }
 }
 
 impl Controller {
@@ -116,30 +180,35 @@ impl Controller {
         }
     }
 
-    // Place p of the window whose holder is n, 0 with no holder.
-    fn window(self, n: u8, p: u8) -> u8
-        ensures { λ r. ⌜ r ≡ windowByte (self .rows) n p ⌝ }
+    // The row to look at for the address a: that of its window's holder, and any other where it has none.
+    pub fn window_row(c: Control, a: u8) -> usize
+        ensures { λ i. ⌜ i ≡ windowRow c (registerAt a) ⌝ }
     {
-        if 16 <= n {
-            return 0;
-        }
-        let i = n as usize;
-        let row = self.rows[i];
-        let b = row.bytes;
-        contents::byte_at(b, p)
+        row_at(holder_of(c, status::reads::register_at(a)))
     }
 
-    // What a register reads.
-    fn register_value(self, register: Register) -> u8
-        ensures { λ r. ⌜ r ≡ registerValue self register ⌝ }
+    // The answer to a register read, the control state being c and the row to look at row.
+    pub fn read_answer(c: Control, a: u8, row: Contents) -> Answer
+        ensures { λ r. ⌜ ((d : Controller) → d .control ≡ c → length (d .rows) ≡ 16 → row ≡ rowAt (d .rows) (windowRow c (registerAt a)) → answered d r ≡ doneOf (stepOf d (read a))) ⌝ }
     {
-        let c = self.control;
-        match register {
-            Register::TransmitWindow(p) => self.window(c.transmit.holder, p),
-            Register::ReceiveWindow(p) => self.window(c.receive.holder, p),
-            Register::FifoWindow(p) => self.window(status::kinds::fifo_holder(c), p),
-            _ => status::reads::value_of(c, register),
+        let k = refusals::read_refusal(c, a);
+        if k != 0 {
+            return Answer::Refused(k);
         }
+        let v = register_value(c, status::reads::register_at(a), row);
+        Answer::Value(v)
+    }
+
+    // What a register write changes, the control state being c and the row to look at row.
+    pub fn write_change(c: Control, a: u8, v: u8, row: Contents) -> Change
+        ensures { λ x. ⌜ ((d : Controller) → d .control ≡ c → length (d .rows) ≡ 16 → row ≡ rowAt (d .rows) (windowRow c (registerAt a)) → changed d x ≡ doneOf (stepOf d (write a v))) ⌝ }
+    {
+        let k = refusals::write_refusal(c, a, v);
+        if k != 0 {
+            return with_answer(c, Answer::Refused(k));
+        }
+        let register = status::reads::register_at(a);
+        write_rows(c, writes::written(c, register, v), register, v, row)
     }
 
     // A register read. It changes nothing.
@@ -147,34 +216,9 @@ impl Controller {
         ensures { λ x. ⌜ changed self x ≡ doneOf (stepOf self (read a)) ⌝ }
     {
         let c = self.control;
-        let k = refusals::read_refusal(c, a);
-        if k != 0 {
-            return with_answer(c, Answer::Refused(k));
-        }
-        let v = self.register_value(status::reads::register_at(a));
-        with_answer(c, Answer::Value(v))
-    }
-
-    // The window of buffer n, 16 or more for none, with place p written, the control state being c.
-    fn write_window(self, c: Control, n: u8, p: u8, v: u8) -> Change
-        ensures { λ x. ⌜ changed self x ≡ record { next = record { control = c; rows = writeWindow (self .rows) n p v }; answer = Ok } ⌝ }
-    {
-        if 16 <= n {
-            return with_answer(c, Answer::Ok);
-        }
-        with_bytes(c, n, write_place(self.contents_of(n), p, v), Answer::Ok)
-    }
-
-    // The write of a register that gives the control state c.
-    fn write_rows(self, c: Control, register: Register, v: u8) -> Change
-        ensures { λ x. ⌜ changed self x ≡ record { next = record { control = c; rows = writtenRows self register v }; answer = Ok } ⌝ }
-    {
-        let holders = self.control;
-        match register {
-            Register::TransmitWindow(p) => self.write_window(c, holders.transmit.holder, p, v),
-            Register::ReceiveWindow(p) => self.write_window(c, holders.receive.holder, p, v),
-            _ => with_answer(c, Answer::Ok),
-        }
+        let i = Controller::window_row(c, a);
+        let row = self.rows[i];
+        with_answer(c, Controller::read_answer(c, a, row))
     }
 
     // A register write.
@@ -182,12 +226,9 @@ impl Controller {
         ensures { λ x. ⌜ changed self x ≡ doneOf (stepOf self (write a v)) ⌝ }
     {
         let c = self.control;
-        let k = refusals::write_refusal(c, a, v);
-        if k != 0 {
-            return with_answer(c, Answer::Refused(k));
-        }
-        let register = status::reads::register_at(a);
-        self.write_rows(writes::written(c, register, v), register, v)
+        let i = Controller::window_row(c, a);
+        let row = self.rows[i];
+        Controller::write_change(c, a, v, row)
     }
 
     // A register read. It changes nothing.

@@ -1,4 +1,4 @@
--- The rows of a record at their machine values: what the walks that reach one of them behind the reference share.
+-- The control state and the rows of a record at their machine values: what the walks that reach them behind the reference share.
 use mathlib.Core.Path.{_≡_, ap, sym, _∙_, subst}
 use Prim.Native.Nat.{ℕ, _*_, _<_, _^_}
 use mathlib.Core.List.{List, [], _∷_, map}
@@ -15,10 +15,13 @@ use Rattle.contents.specs.Bytes.{noContents}
 use Rattle.contents.proofs.Contents as Row
 use Rattle.contents.proofs.Contents.Laws as Row′
 use Rattle.rules.specs.declared.Verdict.{Verdict}
+use Rattle.rules.specs.declared.Control.{Control}
+use Rattle.rules.specs.declared.Register.{Register}
+use Rattle.rules.proofs.Control as Control-row
 use Rattle.rules.proofs.Control.Laws as Control-row′
 use Rattle.controller.specs.declared.Controller.{Controller}
 use Rattle.controller.specs.Carry.{rowAt}
-use Rattle.controller.specs.Code.{rowOf}
+use Rattle.controller.specs.Code.{rowOf, windowRow}
 use Rattle.controller.specs.CodeLaws.{row-within}
 use Rattle.controller.proofs.Controller as T
 use Rattle.controller.proofs.Controller.Laws as T′
@@ -40,10 +43,16 @@ value-at rows i =
 pub row-below : (v : Verdict) (i : ℕ) → i ≡ rowOf v → i < 16
 row-below v i e = let h = row-within v in omega (arith, e)
 
+pub window-below : (c : Control) (r : Register) (i : ℕ) → i ≡ windowRow c r → i < 16
+window-below c r i e = omega (arith, e)
+
 pub byte-fits : (i : ℕ) → i < 16 → i * 14 < 2 ^ 64
 byte-fits i h = omega arith
 
 module _ (h : Controller) (was : Is T.the-row h (LL.val T.the-type T′.the-laws h ∷ [])) where
+  pub control-is : Is Control-row.the-row (h .control) (LL.val Control-row.the-type Control-row′.the-laws (h .control) ∷ [])
+  control-is = LL.owed T.the-type T′.the-laws h _ was .0
+
   sixteen-tuples : length (map (Row.the-type .to) (h .rows)) ≡ 16
   sixteen-tuples = LL.owed T.the-type T′.the-laws h _ was .1 .0 .1 .0 .1
 

@@ -2,7 +2,7 @@
 // changes: a read writes nothing, and a call that touches no buffer's bytes writes the control state alone.
 ghost use mathlib.Core.Path.{_≡_};
 ghost use lib.ListN.{length};
-ghost use Rattle.rules.specs.Steps.Step.{read as readStep, frame as frameStep};
+ghost use Rattle.rules.specs.Steps.Step.{frame as frameStep};
 ghost use Rattle.controller.specs.Session.{stepOf};
 ghost use Rattle.controller.specs.declared.Controller.{Controller};
 ghost use Rattle.controller.specs.Carry.{rowAt};
@@ -14,14 +14,6 @@ use controller::Controller;
 use controller::FrameBytes;
 use rules::Answer;
 use rules::Ruling;
-
-// The answer to a register read.
-fn read(c: Controller, a: u8) -> Answer
-    ensures { λ r. ⌜ r ≡ doneOf (stepOf c (readStep a)) .answer ⌝ }
-{
-    let x = c.plan_read(a);
-    x.answer
-}
 
 // The ruling of a frame, its bytes being a value.
 fn ruling(c: Controller, good: bool, f: FrameBytes) -> Ruling
@@ -85,9 +77,17 @@ pub fn step(c: &mut Controller, call: Call, f: FrameBytes, room: &mut [u8]) -> A
             let x = (*c).plan_reset();
             carry(c, x)
         }
-        Call::Read(a) => read(*c, a),
+        Call::Read(a) => {
+            let d = c.control;
+            let i = Controller::window_row(d, a);
+            let row = c.rows[i];
+            Controller::read_answer(d, a, row)
+        }
         Call::Write(a, v) => {
-            let x = (*c).plan_write(a, v);
+            let d = c.control;
+            let i = Controller::window_row(d, a);
+            let row = c.rows[i];
+            let x = Controller::write_change(d, a, v, row);
             carry(c, x)
         }
         Call::Sync(k) => {

@@ -233,9 +233,9 @@ module _ {M : Type 1} (𝓤 : URA M) (H : Heap 𝓤) (A : Atoms 𝓤) (W : Given
           move ! (6 ∷ 20 ∷ []) $ free1 ! $ move ! (6 ∷ 19 ∷ []) $ free1 ! $ move ! (6 ∷ 18 ∷ []) $ free1 ! $ move ! (6 ∷ 17 ∷ []) $ free1 ! $ move ! (6 ∷ 16 ∷ []) $ free1 ! $ move ! (6 ∷ 15 ∷ []) $ free1 ! $ move ! (6 ∷ 14 ∷ []) $ free1 ! $ move ! (6 ∷ 13 ∷ []) $ free1 ! $ move ! (6 ∷ 12 ∷ []) $ free1 ! $ move ! (6 ∷ 11 ∷ []) $ free1 ! $ move ! (6 ∷ 10 ∷ []) $ free1 ! $ move ! (6 ∷ 9 ∷ []) $ free1 ! $ move ! (6 ∷ 8 ∷ []) $ free1 ! $ move ! (6 ∷ 7 ∷ []) $ free1 ! $ free0 ! $
           keep ! (2 ∷ 0 ∷ 4 ∷ 5 ∷ []) $ by ! (exits (ws .0) m (d .0 ∙ ap (λ (u : Done). u .next) e, d .1 ∙ ap (λ (u : Done). u .answer) e) (answer-is m _ is)))))))
 
-      -- what the ruling changes
-      changing : {y8 y5 y9 y10 y11 y12 : Val} (r : Ruling) → Is Ruling-row.the-row r (LL.val Ruling-row.the-type Ruling-row′.the-laws r ∷ []) → ruled h f r ≡ doneOf (stepOf h (frameStep good f)) → (i : ℕ) → i ≡ rowOf (r .verdict) → length (h .rows) ≡ 16 → Is Row.the-row (rowAt (h .rows) i) (LL.val Row.the-type Row′.the-laws (rowAt (h .rows) i) ∷ []) → Sq W (‵ (fobs γ (T.the-row .coded .code h)) ∷ ‵ (fbor κ (Body (mem T.the-row) b o γ)) ∷ ‵ (flft κ q) ∷ ‵ Bytes ∷ ‵ (flft κ-f q-f) ∷ ‵ (froom Answer-row′.mir l0 0) ∷ ‵ (fat fullShare (tyRef (named 0) mut rec-ty) l1 0 (vptr b o)) ∷ ‵ (fat fullShare tyBool l2 0 (vbool good)) ∷ ‵ (fat fullShare (sliceTy (tyRef (named 1) imm (tyInt w8))) l3 0 s-f) ∷ ‵ (fat fullShare Ruling-row′.mir l4 0 (LL.val Ruling-row.the-type Ruling-row′.the-laws r)) ∷ ‵ (fat fullShare (tyInt w64) l5 0 y5) ∷ ‵ (fat fullShare Row′.mir l6 0 (LL.val Row.the-type Row′.the-laws (rowAt (h .rows) i))) ∷ ‵ (froom out-ty l7 0) ∷ ‵ (fat fullShare T′.mir l8 0 y8) ∷ ‵ (fat fullShare (tyInt w64) l9 0 y9) ∷ ‵ (fat fullShare tyPtr l10 0 y10) ∷ ‵ (fat fullShare tyPtr l11 0 y11) ∷ ‵ (fat fullShare Row′.mir l12 0 y12) ∷ ‵ (froom (tyRef erased mut rec-ty) l13 0) ∷ Dies) (runs C Λ En pieces.t-9 (atRet En Post))
-      changing r r-is e i p sixteen k-is =
+      -- what is made of the row
+      making-ruling : {y8 y5 y9 y10 y11 y12 : Val} (r : Ruling) → Is Ruling-row.the-row r (LL.val Ruling-row.the-type Ruling-row′.the-laws r ∷ []) → ruled h f r ≡ doneOf (stepOf h (frameStep good f)) → (i : ℕ) → i ≡ rowOf (r .verdict) → length (h .rows) ≡ 16 → Is Row.the-row (rowAt (h .rows) i) (LL.val Row.the-type Row′.the-laws (rowAt (h .rows) i) ∷ []) → Sq W (‵ (fobs γ (T.the-row .coded .code h)) ∷ ‵ (fbor κ (Body (mem T.the-row) b o γ)) ∷ ‵ (flft κ q) ∷ ‵ Bytes ∷ ‵ (flft κ-f q-f) ∷ ‵ (froom Answer-row′.mir l0 0) ∷ ‵ (fat fullShare (tyRef (named 0) mut rec-ty) l1 0 (vptr b o)) ∷ ‵ (fat fullShare tyBool l2 0 (vbool good)) ∷ ‵ (fat fullShare (sliceTy (tyRef (named 1) imm (tyInt w8))) l3 0 s-f) ∷ ‵ (fat fullShare Ruling-row′.mir l4 0 (LL.val Ruling-row.the-type Ruling-row′.the-laws r)) ∷ ‵ (fat fullShare (tyInt w64) l5 0 y5) ∷ ‵ (fat fullShare Row′.mir l6 0 (LL.val Row.the-type Row′.the-laws (rowAt (h .rows) i))) ∷ ‵ (froom out-ty l7 0) ∷ ‵ (fat fullShare T′.mir l8 0 y8) ∷ ‵ (fat fullShare (tyInt w64) l9 0 y9) ∷ ‵ (fat fullShare tyPtr l10 0 y10) ∷ ‵ (fat fullShare tyPtr l11 0 y11) ∷ ‵ (fat fullShare Row′.mir l12 0 y12) ∷ ‵ (froom (tyRef erased mut rec-ty) l13 0) ∷ Dies) (runs C Λ En pieces.t-9 (atRet En Post))
+      making-ruling r r-is e i p sixteen k-is =
           move ! (3 ∷ []) $ use1 W (‵ Bytes ⊛ ‵ Bytes) (shr-slice-copy 𝓤 H A W (named 1) κ-f u8 .twice f-ref (s-f ∷ [])) $ split ! $
           move ! (5 ∷ 1 ∷ []) $ group ! 2 $ use1 W (raw ((Changer 𝓤 H A at-mem run) .pre (to-changer r (rowAt (h .rows) i)))) (asked-changer r (rowAt (h .rows) i) r-is k-is) $
           calls-at ! fm (Changer 𝓤 H A at-mem run) known-changer (to-changer r (rowAt (h .rows) i)) (and-then ! (load ! (from ! (stop !)) (look ! 9 refl)) (and-then ! (load ! (from ! (stop !)) (look ! 11 refl)) (and-then ! (load ! (from ! (stop !)) (look ! 8 refl)) (no-more !)))) (λ v.
@@ -246,8 +246,8 @@ module _ {M : Type 1} (𝓤 : URA M) (H : Heap 𝓤) (A : Atoms 𝓤) (W : Given
           keep ! (3 ∷ 4 ∷ 5 ∷ 2 ∷ 0 ∷ 6 ∷ 7 ∷ 8 ∷ 9 ∷ 10 ∷ 11 ∷ 12 ∷ 13 ∷ 14 ∷ 15 ∷ 16 ∷ 17 ∷ 18 ∷ 19 ∷ 20 ∷ 21 ∷ 22 ∷ 23 ∷ 24 ∷ 25 ∷ 26 ∷ 27 ∷ 28 ∷ 29 ∷ 30 ∷ 31 ∷ 32 ∷ 33 ∷ []) $ carrying x (change-is x _ is) (d h sixteen (ap (rowAt (h .rows)) p) ∙ e))))))
 
       -- the row is read
-      reading : {y8 : Val} (r : Ruling) → Is Ruling-row.the-row r (LL.val Ruling-row.the-type Ruling-row′.the-laws r ∷ []) → ruled h f r ≡ doneOf (stepOf h (frameStep good f)) → (i : ℕ) → i ≡ rowOf (r .verdict) → Sq W (‵ (fobs γ (T.the-row .coded .code h)) ∷ ‵ (fbor κ (Body (mem T.the-row) b o γ)) ∷ ‵ (flft κ q) ∷ ‵ Bytes ∷ ‵ (flft κ-f q-f) ∷ ‵ (froom Answer-row′.mir l0 0) ∷ ‵ (fat fullShare (tyRef (named 0) mut rec-ty) l1 0 (vptr b o)) ∷ ‵ (fat fullShare tyBool l2 0 (vbool good)) ∷ ‵ (fat fullShare (sliceTy (tyRef (named 1) imm (tyInt w8))) l3 0 s-f) ∷ ‵ (fat fullShare Ruling-row′.mir l4 0 (LL.val Ruling-row.the-type Ruling-row′.the-laws r)) ∷ ‵ (fat fullShare (tyInt w64) l5 0 (vint w64 i)) ∷ ‵ (froom Row′.mir l6 0) ∷ ‵ (froom out-ty l7 0) ∷ ‵ (fat fullShare T′.mir l8 0 y8) ∷ ‵ (froom (tyInt w64) l9 0) ∷ ‵ (froom tyPtr l10 0) ∷ ‵ (froom tyPtr l11 0) ∷ ‵ (froom Row′.mir l12 0) ∷ ‵ (froom (tyRef erased mut rec-ty) l13 0) ∷ Dies) (runs C Λ En pieces.t-4 (atRet En Post))
-      reading r r-is e i p =
+      reading-ruling : {y8 : Val} (r : Ruling) → Is Ruling-row.the-row r (LL.val Ruling-row.the-type Ruling-row′.the-laws r ∷ []) → ruled h f r ≡ doneOf (stepOf h (frameStep good f)) → (i : ℕ) → i ≡ rowOf (r .verdict) → Sq W (‵ (fobs γ (T.the-row .coded .code h)) ∷ ‵ (fbor κ (Body (mem T.the-row) b o γ)) ∷ ‵ (flft κ q) ∷ ‵ Bytes ∷ ‵ (flft κ-f q-f) ∷ ‵ (froom Answer-row′.mir l0 0) ∷ ‵ (fat fullShare (tyRef (named 0) mut rec-ty) l1 0 (vptr b o)) ∷ ‵ (fat fullShare tyBool l2 0 (vbool good)) ∷ ‵ (fat fullShare (sliceTy (tyRef (named 1) imm (tyInt w8))) l3 0 s-f) ∷ ‵ (fat fullShare Ruling-row′.mir l4 0 (LL.val Ruling-row.the-type Ruling-row′.the-laws r)) ∷ ‵ (fat fullShare (tyInt w64) l5 0 (vint w64 i)) ∷ ‵ (froom Row′.mir l6 0) ∷ ‵ (froom out-ty l7 0) ∷ ‵ (fat fullShare T′.mir l8 0 y8) ∷ ‵ (froom (tyInt w64) l9 0) ∷ ‵ (froom tyPtr l10 0) ∷ ‵ (froom tyPtr l11 0) ∷ ‵ (froom Row′.mir l12 0) ∷ ‵ (froom (tyRef erased mut rec-ty) l13 0) ∷ Dies) (runs C Λ En pieces.t-4 (atRet En Post))
+      reading-ruling r r-is e i p =
           opens ! tt T.the-row {h = h} b o (λ vs. spelt ! T.the-row (Is T.the-row) (shows 𝓤 H A T.the-row) (LL.vals T.the-type T′.the-laws) (LL.tells T.the-type T′.the-laws) fullShare h vs b o $
           move ! (1 ∷ []) $ peeks ! T.the-row (Is T.the-row) (shows 𝓤 H A T.the-row) h (mach h ∷ []) (λ was.
           assigns ! (bin ! (load ! (from ! (stop !)) (look ! 12 refl)) (lit ! tt) (record { fits = byte-fits i (row-below (r .verdict) i p) })) (from ! (stop !)) (init ! 16 refl (tt, record { fits = byte-fits i (row-below (r .verdict) i p) })) $
@@ -259,11 +259,11 @@ module _ {M : Type 1} (𝓤 : URA M) (H : Heap 𝓤) (A : Atoms 𝓤) (W : Given
           use1 W (‵ (cellAt fullShare (T.the-row .mir) (mach h ∷ []) b o)) (W .laws .at-raw fullShare T′.mir b o (mach h)) $
           closes ! tt T.the-row h (mach h ∷ []) b o $
           assigns ! (of-opd ! (load ! (from ! (stop !)) (look ! 17 refl))) (from ! (stop !)) (init ! 11 refl (LL.lawful Row.the-type Row′.the-laws 𝓤 H A W .typed (rowAt (h .rows) i) _ (row-is h was i (row-below (r .verdict) i p)) .0)) $
-          changing r r-is e i p (sixteen-rows h was) (row-is h was i (row-below (r .verdict) i p))))
+          making-ruling r r-is e i p (sixteen-rows h was) (row-is h was i (row-below (r .verdict) i p))))
 
       -- the row to look at
-      finding : {y8 : Val} (r : Ruling) → Is Ruling-row.the-row r (LL.val Ruling-row.the-type Ruling-row′.the-laws r ∷ []) → ruled h f r ≡ doneOf (stepOf h (frameStep good f)) → Sq W (‵ (fobs γ (T.the-row .coded .code h)) ∷ ‵ (fbor κ (Body (mem T.the-row) b o γ)) ∷ ‵ (flft κ q) ∷ ‵ Bytes ∷ ‵ (flft κ-f q-f) ∷ ‵ (froom Answer-row′.mir l0 0) ∷ ‵ (fat fullShare (tyRef (named 0) mut rec-ty) l1 0 (vptr b o)) ∷ ‵ (fat fullShare tyBool l2 0 (vbool good)) ∷ ‵ (fat fullShare (sliceTy (tyRef (named 1) imm (tyInt w8))) l3 0 s-f) ∷ ‵ (fat fullShare Ruling-row′.mir l4 0 (LL.val Ruling-row.the-type Ruling-row′.the-laws r)) ∷ ‵ (froom (tyInt w64) l5 0) ∷ ‵ (froom Row′.mir l6 0) ∷ ‵ (froom out-ty l7 0) ∷ ‵ (fat fullShare T′.mir l8 0 y8) ∷ ‵ (froom (tyInt w64) l9 0) ∷ ‵ (froom tyPtr l10 0) ∷ ‵ (froom tyPtr l11 0) ∷ ‵ (froom Row′.mir l12 0) ∷ ‵ (froom (tyRef erased mut rec-ty) l13 0) ∷ Dies) (runs C Λ En pieces.t-3 (atRet En Post))
-      finding r r-is e =
+      finding-ruling : {y8 : Val} (r : Ruling) → Is Ruling-row.the-row r (LL.val Ruling-row.the-type Ruling-row′.the-laws r ∷ []) → ruled h f r ≡ doneOf (stepOf h (frameStep good f)) → Sq W (‵ (fobs γ (T.the-row .coded .code h)) ∷ ‵ (fbor κ (Body (mem T.the-row) b o γ)) ∷ ‵ (flft κ q) ∷ ‵ Bytes ∷ ‵ (flft κ-f q-f) ∷ ‵ (froom Answer-row′.mir l0 0) ∷ ‵ (fat fullShare (tyRef (named 0) mut rec-ty) l1 0 (vptr b o)) ∷ ‵ (fat fullShare tyBool l2 0 (vbool good)) ∷ ‵ (fat fullShare (sliceTy (tyRef (named 1) imm (tyInt w8))) l3 0 s-f) ∷ ‵ (fat fullShare Ruling-row′.mir l4 0 (LL.val Ruling-row.the-type Ruling-row′.the-laws r)) ∷ ‵ (froom (tyInt w64) l5 0) ∷ ‵ (froom Row′.mir l6 0) ∷ ‵ (froom out-ty l7 0) ∷ ‵ (fat fullShare T′.mir l8 0 y8) ∷ ‵ (froom (tyInt w64) l9 0) ∷ ‵ (froom tyPtr l10 0) ∷ ‵ (froom tyPtr l11 0) ∷ ‵ (froom Row′.mir l12 0) ∷ ‵ (froom (tyRef erased mut rec-ty) l13 0) ∷ Dies) (runs C Λ En pieces.t-3 (atRet En Post))
+      finding-ruling r r-is e =
           use0 W (raw ((Rows 𝓤 H A at-mem run) .pre (to-rows r))) (asked-rows r r-is) $
           calls-at ! fm (Rows 𝓤 H A at-mem run) known-rows (to-rows r) (and-then ! (load ! (from ! (stop !)) (look ! 10 refl)) (no-more !)) (λ v.
           use1 W (later (some (λ (i : ℕ). (‵ ftrue ⊛ ‵ (usize .own i (v ∷ []))) ⊛ raw (ensured 𝓤 H A rows.ended (rows.clauses 𝓤 H A at-mem run) tt (r, tt) tt i)))) (id⊢ 𝓤 _) $ await ! tt $ pick ! (λ i.
@@ -271,7 +271,7 @@ module _ {M : Type 1} (𝓤 : URA M) (H : Heap 𝓤) (A : Atoms 𝓤) (W : Given
           split ! $ move ! (1 ∷ []) $ heard ! (i ≡ rowOf (r .verdict)) (λ p. drop ! $ split ! $ drop ! $
           peeks ! usize (Is usize) (shows 𝓤 H A usize) i (v ∷ []) (λ is. drop ! $
           land ! (from ! (stop !)) (init ! 10 refl (uint-lawful 𝓤 H A W w64 .typed i _ is .0)) $ rewrite ! 10 (λ (u : Val). ‵ (fat fullShare (tyInt w64) l5 0 u)) (ap only (is .0)) refl $
-          reading r r-is e i p)))))
+          reading-ruling r r-is e i p)))))
 
       -- the record is copied out, and the frame's ruling is had
       ruling : Sq W (‵ Rec ∷ ‵ (flft κ q) ∷ ‵ Bytes ∷ ‵ (flft κ-f q-f) ∷ ‵ (froom Answer-row′.mir l0 0) ∷ ‵ (fat fullShare (tyRef (named 0) mut rec-ty) l1 0 (vptr b o)) ∷ ‵ (fat fullShare tyBool l2 0 (vbool good)) ∷ ‵ (fat fullShare (sliceTy (tyRef (named 1) imm (tyInt w8))) l3 0 s-f) ∷ ‵ (froom Ruling-row′.mir l4 0) ∷ ‵ (froom (tyInt w64) l5 0) ∷ ‵ (froom Row′.mir l6 0) ∷ ‵ (froom out-ty l7 0) ∷ ‵ (froom T′.mir l8 0) ∷ ‵ (froom (tyInt w64) l9 0) ∷ ‵ (froom tyPtr l10 0) ∷ ‵ (froom tyPtr l11 0) ∷ ‵ (froom Row′.mir l12 0) ∷ ‵ (froom (tyRef erased mut rec-ty) l13 0) ∷ Dies) (runs C Λ En pieces.t-1 (atRet En Post))
@@ -288,7 +288,7 @@ module _ {M : Type 1} (𝓤 : URA M) (H : Heap 𝓤) (A : Atoms 𝓤) (W : Given
           split ! $ move ! (1 ∷ []) $ use1 W (some (λ (ws : Lasts ruler.ended (κ-f, tt) args-ruler). ‵ (lasts ruler.ended (κ-f, tt) args-ruler ws) ⊛ raw (fact 𝓤 (ruled h f r ≡ doneOf (stepOf h (frameStep good f)))))) (id⊢ 𝓤 _) $ pick ! (λ ws.
           split ! $ move ! (1 ∷ []) $ heard ! (ruled h f r ≡ doneOf (stepOf h (frameStep good f))) (λ e. drop ! $ split ! $ move ! (1 ∷ []) $ peeks ! Ruling-row.the-row (Is Ruling-row.the-row) (shows 𝓤 H A Ruling-row.the-row) r (v ∷ []) (λ is. drop ! $ split ! $
           land ! (from ! (stop !)) (init ! 10 refl (LL.lawful Ruling-row.the-type Ruling-row′.the-laws 𝓤 H A W .typed r _ is .0)) $ rewrite ! 10 (λ (u : Val). ‵ (fat fullShare Ruling-row′.mir l4 0 u)) (ap only (LL.tells Ruling-row.the-type Ruling-row′.the-laws r _ is)) refl $
-          keep ! (3 ∷ 4 ∷ 5 ∷ 2 ∷ 0 ∷ 6 ∷ 7 ∷ 8 ∷ 9 ∷ 10 ∷ 11 ∷ 12 ∷ 13 ∷ 14 ∷ 15 ∷ 16 ∷ 17 ∷ 18 ∷ 19 ∷ 20 ∷ 21 ∷ 22 ∷ 23 ∷ 24 ∷ 25 ∷ 26 ∷ 27 ∷ 28 ∷ 29 ∷ 30 ∷ 31 ∷ 32 ∷ 33 ∷ []) $ finding r (ruling-is r _ is) e)))))))
+          keep ! (3 ∷ 4 ∷ 5 ∷ 2 ∷ 0 ∷ 6 ∷ 7 ∷ 8 ∷ 9 ∷ 10 ∷ 11 ∷ 12 ∷ 13 ∷ 14 ∷ 15 ∷ 16 ∷ 17 ∷ 18 ∷ 19 ∷ 20 ∷ 21 ∷ 22 ∷ 23 ∷ 24 ∷ 25 ∷ 26 ∷ 27 ∷ 28 ∷ 29 ∷ 30 ∷ 31 ∷ 32 ∷ 33 ∷ []) $ finding-ruling r (ruling-is r _ is) e)))))))
 
     walk : ent 𝓤 (onEntry 𝓤 H A this.signature (κ, (κ-f, tt)) (q, (q-f, tt)) a at) (WpFn 𝓤 H C Λ code.function (vptr b o ∷ vbool good ∷ s-f ∷ []) Post)
     walk =

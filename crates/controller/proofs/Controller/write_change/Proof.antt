@@ -1,0 +1,59 @@
+use Prim.Native.Nat.{ℕ}
+use mathlib.Core.Path.{sym, ap, _∙_}
+use borrow.Author.Needs.{needs}
+use Rattle.rules.specs.declared.Answer.the-variants.{Ok, Refused}
+use Rattle.rules.specs.declared.Control.{Control}
+use Rattle.rules.specs.declared.Register.{Register}
+use Rattle.rules.specs.Refusals.{writeRefusal}
+use Rattle.rules.specs.Writes.{written}
+use Rattle.controller.specs.Carry.{rowAt}
+use Rattle.controller.specs.Code.{answered, windowRow, writtenRows}
+use Rattle.controller.specs.CodeLaws.{says-only, write-step, write-refused}
+use Rattle.controller.proofs.Controller.write_change.Statement.{statement}
+use Rattle.controller.proofs.Controller.write_change.Tie as tie
+
+write-refusal-requires : tie.Need-write-refusal-requires
+write-refusal-requires c κs = search needs
+
+with-answer-requires : tie.Need-with-answer-requires
+with-answer-requires c κs = search needs
+
+returns : tie.Need-returns
+returns c =
+    let a = c .before .before .before .args in
+    λ d same sixteen e.
+    let refusal = c .before .before .write-refusal .ensures ∙ ap (λ (h : Control). writeRefusal h (a .a) (a .v)) (sym same) in
+    says-only d _ (a .c) _ (c .with-answer .ensures) ∙ ap (λ (h : Control). answered (record { control = h; rows = d .rows }) (Refused (c .before .before .write-refusal .result))) (sym same)
+    ∙ ap (λ (k : ℕ). answered d (Refused k)) refusal ∙ sym (write-refused d (a .a) (a .v) (λ z. c .before .if1 .taken (refusal ∙ z)))
+
+register-at-requires : tie.Need-register-at-requires
+register-at-requires c κs = search needs
+
+written-requires : tie.Need-written-requires
+written-requires c κs = search needs
+
+write-rows-requires : tie.Need-write-rows-requires
+write-rows-requires c κs = search needs
+
+returns-2 : tie.Need-returns-2
+returns-2 c =
+    let a = c .before .before .before .before .before .args in
+    let r = c .before .before .register-at in
+    λ d same sixteen e.
+    let none = ap (λ (h : Control). writeRefusal h (a .a) (a .v)) same ∙ sym (c .before .before .before .before .write-refusal .ensures) ∙ c .before .before .before .if1 .left in
+    c .write-rows .ensures d same sixteen (e ∙ ap (λ (k : Register). rowAt (d .rows) (windowRow (a .c) k)) (sym (r .ensures)))
+    ∙ ap (λ (h : Control). answered (record { control = h; rows = writtenRows d (r .result) (a .v) }) Ok) (c .before .written .ensures ∙ ap (λ (h : Control). written h (r .result) (a .v)) (sym same))
+    ∙ ap (λ (k : Register). answered (record { control = written (d .control) k (a .v); rows = writtenRows d k (a .v) }) Ok) (r .ensures)
+    ∙ sym (write-step d (a .a) (a .v) none)
+
+pub write-change-spec : {M : Type 1} → statement M
+write-change-spec =
+    tie.close
+    (tie.spec
+    write-refusal-requires
+    with-answer-requires
+    returns
+    register-at-requires
+    written-requires
+    write-rows-requires
+    returns-2)
