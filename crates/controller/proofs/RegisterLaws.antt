@@ -3,6 +3,8 @@ use Prim.Native.Nat.{ℕ, _≤_, _<_}
 use mathlib.Core.Path.{_≡_, refl, sym, ap, _∙_}
 use mathlib.Core.List.{List, [], _∷_}
 use native.Mathlib.Omega.{arith}
+use borrow.Author.Tests.{ltb-false}
+use lib.Dec.{ltb}
 use lib.ListN.{length, getD, set, length-map, List·getD-eq-default}
 use lib.Seq.{set-out}
 use types.Run.{OneOf, miss}
@@ -10,6 +12,7 @@ use mir.Val.{Val}
 use denote.Shadow.{shadow}
 use denote.Struct.Declared.{row}
 use denote.Enum.Declared.{tagOf}
+use Rattle.masks.specs.Pick.{pick-true, by-test}
 use Rattle.contents.proofs.Contents.{the-type as the-contents}
 use Rattle.contents.specs.declared.Contents.{Contents}
 use Rattle.contents.specs.Bytes.{noContents}
@@ -18,6 +21,7 @@ use Rattle.rules.proofs.Register.{the-type as the-register}
 use Rattle.rules.specs.declared.Register.{Register}
 use Rattle.rules.specs.declared.Register.the-variants.{Mcr, Fsizr, Tcr1, Tcr2, Tcr3, Risr, Gisr, Rier, Gier, Rivec, Tivec, Fidac, Fidmr, Mvr, Pctlbf, Buflock, Fidrj, Fidrmr, TransmitWindow, ReceiveWindow, FifoWindow, Bufctl, Reserved}
 use Rattle.rules.specs.Reads.{valueOf}
+use Rattle.rules.specs.Refusals.{refuses1, firstOf, writeRefusal}
 use Rattle.controller.specs.declared.Controller.{Controller}
 use Rattle.controller.specs.declared.FrameBytes.{FrameBytes}
 use Rattle.controller.specs.Carry.{rowAt}
@@ -143,3 +147,13 @@ module _ (c : Controller) where
   other-rows (FifoWindow p) v h = refl
   other-rows (Bufctl n) v h = refl
   other-rows Reserved v h = refl
+
+-- ---- refusal 1
+
+-- what is accepted is written at or below $5F
+pub accepted-below : (c : Control) (a v : ℕ) → writeRefusal c a v ≡ 0 → a < 0x60
+unfolding writeRefusal firstOf refuses1
+accepted-below c a v e =
+    by-test (ltb 0x5F a)
+    (λ t. absurd (let z : _≡_ {A = ℕ} 1 0 = sym (pick-true (ltb 0x5F a) 1 _ t) ∙ e in omega arith))
+    (λ t. let below = ltb-false 0x5F a t in omega arith)

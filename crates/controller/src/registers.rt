@@ -207,8 +207,11 @@ impl Controller {
         if k != 0 {
             return with_answer(c, Answer::Refused(k));
         }
+        if 0x50 <= a {
+            return with_answer(writes::written_control(c, a - 0x50, v), Answer::Ok);
+        }
         let register = status::reads::register_at(a);
-        write_rows(c, writes::written(c, register, v), register, v, row)
+        write_rows(c, writes::written_low(c, register, v), register, v, row)
     }
 
     // A register read. It changes nothing.
