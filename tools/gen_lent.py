@@ -404,7 +404,7 @@ use mir.Syntax.{tyPtr, op2, unsigned, mul, offset, int as intᴹ}
 use denote.Index.{place-is}
 use Rattle.contents.specs.Bytes.{noContents}
 use Rattle.controller.specs.Carry.{rowAt}
-use Rattle.controller.specs.Code.{rowOf, windowRow, ruled}
+use Rattle.controller.specs.Code.{rowOf, windowRow, ruled, roomSent}
 use Rattle.lent.proofs.Element.{elem-at}
 use Rattle.lent.proofs.Rows.{at-rows, values, value-at, row-below, window-below, byte-fits, sixteen-rows, sixteen-values, in-rows, row-is, control-is}"""
 CHANGE_IS=f"""change-is : (x : Change) (vs : List Val) → Is S.the-row x vs → {Cha.is_("x")}
@@ -448,11 +448,11 @@ def indexed(w,c,to,ask,args,ops,at):
 def changes(w,LT,ctx,x,end):
     """the change x lands in its local, and end follows"""
     w.land(x,LT[x],Cha.typed("x","is"),Cha.same("x","is")); w.keep(ctx); w.emit(end)
-def ruling(lemma,w,LT,ctx,val,held,ys,L,r,x,codes,q,bytes,goal,pre,given,change,end):
-    """the lemmas of a ruling r that gives the step; bytes: the frame's; pre, given: what else is known; change: the call's text, of which d is what it says"""
+def ruling(lemma,w,LT,ctx,val,held,ys,L,r,x,codes,q,bytes,goal,pre,given,change,end,tag="ruling",after=None):
+    """the lemmas of a ruling r that gives the step; bytes: the frame's; pre, given: what else is known; change: the call's text, of which d is what it says; after: the context that it leaves"""
     at="i ≡ rowOf (r .verdict)"; FACT=f"(c : Controller) → length (c .rows) ≡ 16 → {ROW} ≡ rowAt (c .rows) (rowOf (r .verdict)) → changed c x ≡ ruled c {bytes} r"
-    looks(lemma,w,LT,ctx,{**val,r:Rul.val("r")},held,ys,L,codes,q,"ruling",f"(r : Ruling) → {Rul.is_('r')} → ruled h {bytes} r ≡ {goal} → "+pre,f"r r-is e {given}".strip(),
-      lambda w:indexed(w,rows,"(to-rows r)","(asked-rows r r-is)","(r, tt)",lambda:[w.load(r)],at),at,"(row-below (r .verdict) i p)",lambda w:(change(w,FACT),changes(w,LT,ctx,x,end)))
+    looks(lemma,w,LT,ctx,{**val,r:Rul.val("r")},held,ys,L,codes,q,tag,f"(r : Ruling) → {Rul.is_('r')} → ruled h {bytes} r ≡ {goal} → "+pre,f"r r-is e {given}".strip(),
+      lambda w:indexed(w,rows,"(to-rows r)","(asked-rows r r-is)","(r, tt)",lambda:[w.load(r)],at),at,"(row-below (r .verdict) i p)",lambda w:(change(w,FACT),changes(w,LT,after or ctx,x,end)))
 
 def frame():
     ruler=Callee("ruler","controller","Controller.frame_ruling"); changer=Callee("changer","controller","Controller.ruling_change"); carries=Callee("carries",crate,"carry"); CS=[ruler,rows,changer,carries]
@@ -621,7 +621,7 @@ def ask_carry(carries):
 class Arm:
     """an arm of the match: its variant, the variables of its pattern, the function that it calls, and its step; rules: the function gives a ruling; window: it is given the control state and a row"""
     def __init__(self,con,vars,home,p,step,frame=False,room=False,rules=False,window=False):
-        self.con=con; self.low=con.lower() if window else p.split(".")[-1].replace("plan_",""); self.window=window; self.vars=vars; self.fn=Callee(self.low+"s",home,p); self.step=step; self.frame=frame; self.room=room; self.rules=rules; self.reads=con=="Read"
+        self.con=con; self.low=con.lower() if window or room else p.split(".")[-1].replace("plan_",""); self.window=window; self.vars=vars; self.fn=Callee(self.low+"s",home,p); self.step=step; self.frame=frame; self.room=room; self.rules=rules; self.reads=con=="Read"
     def names(self): return [n for n,k in self.vars]
     def pat(self): return par(" ".join([self.con]+self.names()))
     def binders(self): return "".join(f"({n} : {den(k)}) " for n,k in self.vars)
@@ -638,8 +638,8 @@ def step():
     Syn=Decl("SyncKind","Sync-row","enum","rules",False); Syn.den="SyncKind"; Fau=Decl("Fault","Fault-row","enum","rules",False); Fau.den="FaultKind"
     con="controller"; plan=lambda x:"Controller.plan_"+x
     ARMS=[Arm("Reset",[],con,plan("reset"),"reset"),Arm("Read",[("n","u8")],con,"Controller.read_answer","read n",window=True),Arm("Write",[("n","u8"),("u","u8")],con,"Controller.write_change","write n u",window=True),Arm("Sync",[("k",Syn)],con,plan("sync"),"sync k"),Arm("SyncDue",[],con,plan("due"),"syncDue"),
-      Arm("Slot",[("n","u8")],con,plan("slot"),"slot n room",room=True),Arm("Frame",[("good","bool")],crate,"ruling","frameStep good (bytesIn f)",frame=True,rules=True),Arm("Fault",[("k",Fau)],con,plan("fault"),"fault k"),Arm("Timeout",[],con,plan("timeout"),"timeout")]
-    carries=Callee("carries",crate,"carry"); frameds=Callee("frameds",crate,"framed"); windows=Callee("windows",con,"Controller.window_row"); CS=[a.fn for a in ARMS]+[rows,windows,frameds,carries]
+      Arm("Slot",[("n","u8")],con,"Controller.slot_ruling","slot n room",room=True,rules=True),Arm("Frame",[("good","bool")],crate,"ruling","frameStep good (bytesIn f)",frame=True,rules=True),Arm("Fault",[("k",Fau)],con,plan("fault"),"fault k"),Arm("Timeout",[],con,plan("timeout"),"timeout")]
+    carries=Callee("carries",crate,"carry"); frameds=Callee("frameds",crate,"framed"); windows=Callee("windows",con,"Controller.window_row"); filled=Callee("filled",con,"Controller.slot_change"); CS=[a.fn for a in ARMS]+[rows,windows,frameds,filled,carries]
     # ---- the locals, as the arms have them: their variables and the change, the answer, and what the calls want
     byte="tyInt w8"; ref="tyRef erased mut rec-ty"; lty=lambda k:byte if k=="u8" else "tyBool" if k=="bool" else k.mir()
     LT=[Ans.mir(),"tyRef (named 0) mut rec-ty",Cal.mir(),Fra.mir(),"sliceTy (tyRef (named 1) mut (tyInt w8))"]
@@ -653,8 +653,8 @@ def step():
     ANS=local(Ans.mir())
     for a in ARMS:
         if not a.window: a.copy=local(Con.mir())
-        if a.room: a.ptr=local("tyRef erased mut (tyInt w8)"); a.agg=local("sliceTy (tyRef erased mut (tyInt w8))")
         if a.rules or a.window: a.L=Look(a.i,a.row,local("tyInt w64"),local("tyPtr"),local("tyPtr"),local(Row.mir()))
+        if a.room: a.ptr=local("tyRef erased mut (tyInt w8)"); a.agg=local("sliceTy (tyRef erased mut (tyInt w8))")
         if not a.reads: a.ref=local(ref)
     N=len(LT)
     CELLS=[f"_{i}" for i in range(N)]; DIES=[f"d{i}" for i in range(N)]; ALL=CELLS+DIES
@@ -692,7 +692,7 @@ def step():
     HAS=["obs","bor","tok","t-room","fin"]
     for a in ARMS:
         mine=a.locs+([] if a.reads else [a.out])+([a.d] if a.window else [a.copy])+([a.ptr,a.agg] if a.room else [])+([a.r] if a.rules else [])+(a.L.all() if a.rules or a.window else [])
-        zs="(ws .1 .1 .0)" if a.room else "room"; given=" ".join(a.names()+a.given())
+        given=" ".join(a.names()+a.given())
         if not a.reads:
             # the change is carried out, the record being lent again at its own lifetime
             ctx=HAS+ALL; w.ctx=list(ctx); ys=[2]+[i for i in mine if i!=a.out]
@@ -705,14 +705,24 @@ def step():
             w.land(ANS,LT[ANS],Ans.typed("m","is"),Ans.same("m","is"),last=True)
             ended(sorted(mine+[a.ref]),"(ws .0)","m","zs","(d .0 ∙ ap (λ (u : Done). u .next) e, d .1 ∙ ap (λ (u : Done). u .answer) e, z) (answer-is m _ is) l")
             lemma(f"-- what `{a.con}` changes is carried out",f"carried-{a.low}",us(ys)+f"(x : Change) → {Cha.is_('x')} → changed h x ≡ doneOf (stepOf h ({STEP})) → (zs : List ℕ) → zs ≡ roomFor h call room → length zs ≡ length room → ",f"carried-{a.low} x x-is e zs z l",f"(carrying {a.ref} {a.out})",NEXT,start,w.text())
-        if a.rules:
+        held={"obs":OBS("h"),"bor":BOR,"tok":TOK,"t-room":TROOM,"fin":FIN.replace("zs","room"),"room":"‵ Room′"}; k_=f"r ({ROW})"; SAYS=f"carried-{a.low} x (change-is x _ is) (d h sixteen (ap (rowAt (h .rows)) p) ∙ e)"
+        if a.frame:
             def change(w,fact):
-                w.emit(f"use0 W (raw ({frameds.at()} .pre (to-framed r ({ROW})))) (asked-framed r ({ROW}) r-is k-is) $\n"); w.give(0,["pre"])
-                called(w,frameds,f"(to-framed r ({ROW}))",f"(args-framed r ({ROW}))",[w.load(a.r),w.load(a.row),w.load(3)],"Change","x","v","tt","‵ ftrue",Cha.row(),fact,"d"); kept_as(w,Cha,"x")
-            ruling(lemma,w,LT,HAS+ALL,val,{"obs":OBS("h"),"bor":BOR,"tok":TOK,"t-room":TROOM,"fin":FIN.replace("zs","room")},[2]+a.locs+[a.copy],a.L,a.r,a.out,codes("ruling"),NEXT,"(bytesIn f)",f"doneOf (stepOf h ({STEP}))","room ≡ roomFor h call room → ","z",change,f"carried-{a.low} x (change-is x _ is) (d h sixteen (ap (rowAt (h .rows)) p) ∙ e) room z refl")
+                w.emit(f"use0 W (raw ({frameds.at()} .pre (to-framed {k_}))) (asked-framed {k_} r-is k-is) $\n"); w.give(0,["pre"])
+                called(w,frameds,f"(to-framed {k_})",f"(args-framed {k_})",[w.load(a.r),w.load(a.row),w.load(3)],"Change","x","v","tt","‵ ftrue",Cha.row(),fact,"d"); kept_as(w,Cha,"x")
+            ruling(lemma,w,LT,HAS+ALL,val,held,[2]+a.locs+[a.copy],a.L,a.r,a.out,codes(a.low),NEXT,"(bytesIn f)",f"doneOf (stepOf h ({STEP}))","room ≡ roomFor h call room → ","z",change,SAYS+" room z refl")
+        if a.room:
+            # the room goes on with the change
+            HAS_ROOM=["obs","bor","tok","room","t-room"]; zs="(ws .1 .1 .0)"
+            def change(w,fact):
+                w.again(4,a.ptr,a.agg,"room-room"); w.to(["t-room","room"]); w.emit(f"group ! 2 $ use1 W (raw ({filled.at()} .pre (to-filled {k_}))) (asked-filled {k_} r-is k-is) $\n"); w.give(2,["pre"])
+                called(w,filled,f"(to-filled {k_})",f"(args-filled {k_})",[w.load(a.r),w.load(a.row),w.load(a.agg)],"Change","x","v","(κ-room, tt)",f"({TROOM} ⊛ ‵ ftrue)",Cha.row(),[fact,f"(c : Controller) → {ROW} ≡ rowAt (c .rows) (rowOf (r .verdict)) → {zs} ≡ roomSent (c .rows) room (r .verdict)"],["d","z₁"])
+                w.ctx=["lasts","out"]+w.ctx[2:]; w.emit("fsplit ! $ drop ! $ fsplit ! $ drop ! $ fsplit ! $ fsplit ! $ move ! (1 ∷ []) $ feqL ! (λ l.\n"); w.give(1,["fin","true"])
+                w.to(["out"]); w.emit("split ! $ "); w.give(1,["toks","own"]); w.to(["own"]); w.emit(Cha.peeks("x","(v ∷ [])")+"(λ is. drop ! $ split ! $\n"); w.give(2,["t-room","true2"])
+            ruling(lemma,w,LT,HAS_ROOM+ALL,val,held,[2]+a.locs+[a.copy],a.L,a.r,a.out,codes(a.low),NEXT,"[]",f"doneOf (stepOf h ({STEP}))","roomSent (h .rows) room (r .verdict) ≡ roomFor h call room → ","z",change,SAYS+f" {zs} (z₁ h (ap (rowAt (h .rows)) p) ∙ z) l",a.low,HAS+ALL)
         if a.window:
             # the control state is read, then the row to look at; the room is not passed
-            held={"obs":OBS("h"),"bor":BOR,"tok":TOK,"t-room":TROOM,"fin":FIN.replace("zs","room")}; known_={**val,**{i:value(n,k) for i,(n,k) in zip(a.locs,a.vars)},a.d:Ctl.val("h .control")}
+            known_={**val,**{i:value(n,k) for i,(n,k) in zip(a.locs,a.vars)},a.d:Ctl.val("h .control")}
             at="i ≡ windowRow (h .control) (registerAt n)"; hyp=a.binders()+"→ "+a.facts()+f"{Ctl.is_('h .control')} → {a.step} ≡ {STEP} → room ≡ roomFor h call room → "; names=given+" d-is s z"
             FACT=f"(c : Controller) → c .control ≡ h .control → length (c .rows) ≡ 16 → {ROW} ≡ rowAt (c .rows) (windowRow (h .control) (registerAt n)) → "; G_=f"g h refl sixteen (ap (rowAt (h .rows)) p)"
             def make(w):
@@ -733,29 +743,20 @@ def step():
         w.ctx=list(base); start=(base,LT,{**val,2:"y2",**{i:value(n,k) for i,(n,k) in zip(a.locs,a.vars)}},HELD)
         opens(w); w.nl(); copies(w,a.copy); closes(w)
         ask=par(" ".join([f"asked-{a.low}"]+a.names()+a.given()+["was"]))
-        if a.room:
-            w.again(4,a.ptr,a.agg,"room-room"); w.to(["t-room","room"])
-            w.emit(f"group ! 2 $ use1 W (raw ({a.fn.at()} .pre {a.to()})) {ask} $\n"); w.give(2,["pre"])
-        else:
-            unpassed(w)
-            w.emit(f"use0 W (raw ({a.fn.at()} .pre {a.to()})) {ask} $\n"); w.give(0,["pre"])
-        ops=[w.load(a.copy)]+[w.load(i) for i in a.locs]+([w.load(3)] if a.frame else [w.load(a.agg)] if a.room else [])
-        says=f"changed h x ≡ doneOf (stepOf h ({a.step}))"
-        if a.rules: says=f"ruled h (bytesIn f) r ≡ doneOf (stepOf h ({a.step}))"
-        if a.room: says=[says,f"{zs} ≡ stepOf h ({a.step}) .room"]
+        if a.room: w.assign(f"(of-opd ! {w.part(4,1)})",a.L.mul,"(tt, record { fits = room-room .0 })")
+        else: unpassed(w)
+        w.emit(f"use0 W (raw ({a.fn.at()} .pre {a.to()})) {ask} $\n"); w.give(0,["pre"])
+        ops=[w.load(i) for i in [a.copy]+a.locs+([3] if a.frame else [a.L.mul] if a.room else [])]
+        says,e=f"changed h x ≡ doneOf (stepOf h ({a.step}))","e"
+        if a.frame: says=f"ruled h (bytesIn f) r ≡ doneOf (stepOf h ({a.step}))"
+        if a.room: FOR="(zs : List ℕ) → length zs ≡ length room → "; says,e=[FOR+"ruled h [] r ≡ doneOf (stepOf h (slot n zs))",FOR+"roomSent (h .rows) zs (r .verdict) ≡ stepOf h (slot n zs) .room"],["e","z₁"]
         res,T,D=("r","Ruling",Rul) if a.rules else ("x","Change",Cha)
-        called(w,a.fn,a.to(),a.args(),ops,T,res,"v","(κ-room, tt)" if a.room else "tt",f"({TROOM} ⊛ ‵ ftrue)" if a.room else "‵ ftrue",D.row(),says,["e","z₁"] if a.room else "e")
-        w.ctx=["lasts","out"]+w.ctx[2:]
-        if a.room:
-            w.emit("fsplit ! $ drop ! $ "*(1+len(a.vars))+"fsplit ! $ fsplit ! $ move ! (1 ∷ []) $ feqL ! (λ l.\n"); w.give(1,["fin","true"])
-            w.to(["out"]); w.emit("split ! $ "); w.give(1,["toks","own"]); w.to(["own"])
-        else: w.emit("drop ! $ split ! $ drop ! $\n"); w.give(2,["own"])
-        w.emit(D.peeks(res,"(v ∷ [])")+"(λ is. drop ! $"+(" split ! $" if a.room else "")+"\n"); w.give(1,[])
-        if a.room: w.give(1,["t-room","true2"])
+        called(w,a.fn,a.to(),a.args(),ops,T,res,"v","tt","‵ ftrue",D.row(),says,e); kept_as(w,D,res)
         k=a.r if a.rules else a.out
-        w.land(k,LT[k],D.typed(res,"is"),D.same(res,"is"))
-        if a.rules: w.keep(HAS+ALL); w.emit("finding-ruling r (ruling-is r _ is) (e ∙ ap (λ (s : Step). doneOf (stepOf h s)) s) z")
-        else: w.keep(HAS+ALL); w.emit(f"carried-{a.low} x (change-is x _ is) (e ∙ ap (λ (s : Step). doneOf (stepOf h s)) s) {zs} {'(z₁ ∙ z) l' if a.room else 'z refl'}")
+        w.land(k,LT[k],D.typed(res,"is"),D.same(res,"is")); then="ap (λ (s : Step). doneOf (stepOf h s)) s"
+        if a.room: w.emit(f"forget ! {w.cell(a.L.mul)} refl $ "); w.keep(HAS_ROOM+ALL); w.emit(f"finding-{a.low} r (ruling-is r _ is) (e room refl ∙ {then}) (z₁ room refl ∙ z)")
+        elif a.rules: w.keep(HAS+ALL); w.emit(f"finding-{a.low} r (ruling-is r _ is) (e ∙ {then}) z")
+        else: w.keep(HAS+ALL); w.emit(f"carried-{a.low} x (change-is x _ is) (e ∙ {then}) room z refl")
         left=f"stepOf h ({a.step}) .room" if a.room else "room"
         lemma(f"-- {a.con}",f"on-{a.low}",us([2])+(a.binders() if a.vars else "")+"→ "+a.facts()+f"{a.step} ≡ {STEP} → {left} ≡ roomFor h call room → ",f"on-{a.low} {given} s z".replace("  "," "),f"code-{a.low}",NEXT,start,w.text())
     # ---- the match
@@ -784,36 +785,33 @@ def step():
   asked-{a.low} : {a.binders()}(k : Contents) → {a.facts()}{Ctl.is_("h .control")} → {Row.is_("k")} → ent 𝓤 (emp 𝓤) ({a.fn.at()} .pre (to-{a.low} {ns}))
   asked-{a.low} {ns} {' '.join(a.given())} d-is k-is = qed W [] ∵ nothing ! $ nothing ! $ {Row.owned("k","k-is")}fjoin ! $ {own}{Ctl.owned("h .control","d-is")}fjoin ! $ {CLOSE}
 """
-        ty=" × (".join(["Controller"]+[den(k) for n,k in a.vars]+(["FrameBytes"] if a.frame else ["RefT (List ℕ)"] if a.room else [])+["Unit {0}"])+")"*(len(a.vars)+1+(a.frame or a.room))
-        xs=["h"]+a.names()+(["f"] if a.frame else ["room-ref"] if a.room else [])
-        vs=["mach h ∷ []"]+[value(n,k)+" ∷ []" for n,k in a.vars]+([Fra.val("f")+" ∷ []"] if a.frame else ["s-room ∷ []"] if a.room else [])
-        bs="".join(f"{den(k)} → " for n,k in a.vars); ns="".join(" "+n for n in a.names())
-        held=f"({TROOM} ∷ ‵ Room′ ∷ [])" if a.room else "[]"
-        w=Walk(6)
-        if a.room: w.ctx=["t-room","room"]; w.emit("nothing ! $ "); w.give(0,["t"]); w.to(["t-room","t"]); w.emit("join ! $ nothing ! $ "); w.give(2,["X","t"]); w.to(["room","X"]); w.emit("fjoin ! $ ")
-        else: w.emit("nothing ! $ nothing ! $ "+(Fra.owned("f","f-is")+"fjoin ! $ " if a.frame else ""))
-        for n,k in reversed(a.vars): w.emit(owned(n,k))
-        w.emit(Con.owned("h","was")+"fjoin ! $ "+CLOSE)
+        last=[("FrameBytes","f",Fra.val("f"),Fra.owned("f","f-is"))] if a.frame else [("ℕ","length room","vint w64 (length room)","owned ! usize (Is usize) (uint-makes 𝓤 H A W w64) (length room) _ (refl, room-room .0) $ ")] if a.room else []
+        ty=" × (".join(["Controller"]+[den(k) for n,k in a.vars]+[x[0] for x in last]+["Unit {0}"])+")"*(len(a.vars)+1+len(last))
+        xs=["h"]+a.names()+[x[1] for x in last]; vs=["mach h ∷ []"]+[value(n,k)+" ∷ []" for n,k in a.vars]+[x[2]+" ∷ []" for x in last]
+        bs="".join(f"{den(k)} → " for n,k in a.vars); ns="".join(" "+n for n in a.names()); own="".join(x[3]+"fjoin ! $ " for x in last)+"".join(owned(n,k) for n,k in reversed(a.vars))
         return f"""  abbrev args-{a.low} : {bs}{ty}
   args-{a.low}{ns} = {tup(xs)}
 
   abbrev to-{a.low} : {bs}{a.fn.at()} .Ghost
-  to-{a.low}{ns} = (({'(κ-room, tt), (q-room, tt)' if a.room else 'tt, tt'}, tt, {a.args()}, {tup(vs)}), tt)
+  to-{a.low}{ns} = ((tt, tt, tt, {a.args()}, {tup(vs)}), tt)
 
-  asked-{a.low} : {a.binders()+'→ ' if a.vars else ''}{a.facts()}{Con.is_("h")} → ent 𝓤 ({'⋆ 𝓤 H A '+held if a.room else 'emp 𝓤'}) ({a.fn.at()} .pre {a.to()})
-  asked-{a.low} {' '.join(a.names()+a.given()+['was'])} = qed W {held} ∵ {w.text()}
+  asked-{a.low} : {a.binders()+'→ ' if a.vars else ''}{a.facts()}{Con.is_("h")} → ent 𝓤 (emp 𝓤) ({a.fn.at()} .pre {a.to()})
+  asked-{a.low} {' '.join(a.names()+a.given()+['was'])} = qed W [] ∵ nothing ! $ nothing ! $ {own}{Con.owned("h","was")}fjoin ! $ {CLOSE}
 """
+    w=Walk(6); w.ctx=["t-room","room"]; w.emit("nothing ! $ "); w.give(0,["t"]); w.to(["t-room","t"]); w.emit("join ! $ nothing ! $ "); w.give(2,["X","t"]); w.to(["room","X"]); w.emit(f"fjoin ! $ {Row.owned('k','k-is')}fjoin ! $ {Rul.owned('r','r-is')}fjoin ! $ {CLOSE}"); ask_filled=w.text(); WITH_ROOM=f"({TROOM} ∷ ‵ Room′ ∷ [])"
     GL="(κ, (κ-room, tt))"; GQ="(q, (q-room, tt))"; bound=f"(({GL}, {GQ}, tt, a, at), tt)"
     def code(a):
         if a.window:
             made=f"callᴹ #{a.fn.a} ({' ∷ '.join([cp(i) for i in [a.d]+a.locs+[a.row]]+['[]'])}) (placeᴹ {ANS if a.reads else a.out} [])"
             return a.L.code(a.low,f"callᴹ #windows ({cp(a.d)} ∷ {cp(a.locs[0])} ∷ [])",made if a.reads else f"seqᴹ ({made}) (carrying {a.ref} {a.out})")+f"\nabbrev code-{a.low} : Bodyᴹ\ncode-{a.low} = seqᴹ (assignᴹ (placeᴹ {a.d} []) (rvOpd (copyᴹ (placeᴹ 1 (deref T′.mir ∷ fieldᴹ 0 ∷ []))))) code-finding-{a.low}\n"
-        ops=" ∷ ".join([cp(a.copy)]+[cp(i) for i in a.locs]+([cp(3)] if a.frame else [cp(a.agg)] if a.room else [])+["[]"])
-        c=f"callᴹ #{a.fn.a} ({ops}) (placeᴹ {a.r if a.rules else a.out} [])"
-        if a.rules: c=f"seqᴹ ({c}) code-finding-ruling"
-        else: c=f"seqᴹ ({c}) (carrying {a.ref} {a.out})"
-        if a.room: c=f"seqᴹ (assignᴹ (placeᴹ {a.ptr} []) (addrOf (placeᴹ 4 (fieldᴹ 0 ∷ deref (tyInt w8) ∷ [])))) (seqᴹ (assignᴹ (placeᴹ {a.agg} []) (aggregate ({cp(a.ptr)} ∷ copyᴹ (placeᴹ 4 (fieldᴹ 1 ∷ [])) ∷ []))) ({c}))"
-        found=a.L.code("ruling",f"callᴹ #rows ({cp(a.r)} ∷ [])",f"seqᴹ (callᴹ #frameds ({cp(a.r)} ∷ {cp(a.row)} ∷ {cp(3)} ∷ []) (placeᴹ {a.out} [])) (carrying {a.ref} {a.out})")+"\n" if a.rules else ""
+        ops=" ∷ ".join([cp(i) for i in [a.copy]+a.locs+([3] if a.frame else [a.L.mul] if a.room else [])]+["[]"])
+        c=f"callᴹ #{a.fn.a} ({ops}) (placeᴹ {a.r if a.rules else a.out} [])"; ends=f"(carrying {a.ref} {a.out})"; found=""
+        if a.rules:
+            make=f"seqᴹ (callᴹ #{'filled' if a.room else 'frameds'} ({cp(a.r)} ∷ {cp(a.row)} ∷ {cp(a.agg if a.room else 3)} ∷ []) (placeᴹ {a.out} [])) {ends}"
+            if a.room: make=f"seqᴹ (assignᴹ (placeᴹ {a.ptr} []) (addrOf (placeᴹ 4 (fieldᴹ 0 ∷ deref (tyInt w8) ∷ [])))) (seqᴹ (assignᴹ (placeᴹ {a.agg} []) (aggregate ({cp(a.ptr)} ∷ copyᴹ (placeᴹ 4 (fieldᴹ 1 ∷ [])) ∷ []))) ({make}))"
+            found=a.L.code(a.low,f"callᴹ #rows ({cp(a.r)} ∷ [])",make)+"\n"; ends=f"code-finding-{a.low}"
+        c=f"seqᴹ ({c}) {ends}"
+        if a.room: c=f"seqᴹ (assignᴹ (placeᴹ {a.L.mul} []) (rvOpd (copyᴹ (placeᴹ 4 (fieldᴹ 1 ∷ []))))) ({c})"
         return found+f"abbrev code-{a.low} : Bodyᴹ\ncode-{a.low} = copied {a.copy} ({c})\n"
     def armcode(key,a):
         c=f"code-{a.low}"
@@ -823,7 +821,7 @@ def step():
     for key,a in reversed(list(enumerate(ARMS))): match=f"armᴹ ({key} ∷ []) arm-{a.low} {par(match)}"
     body="\n".join(lemmas); nl=chr(10)
     put(f"""-- `lent::step` meets its contract: a walk of its MIR. The switch goes by cases on the call: the tag is then a numeral, and only the arm that runs is walked. In an arm the borrow is opened for a copy of the record and closed at the same record.
--- A register call opens it for the control state and for the one row that its window shows, a frame for the row that its ruling names. A change goes on to `carry` with the reference at its own lifetime, which gives back what says its last value. The room goes on to `plan_slot` in the same way; where
+-- A register call opens it for the control state and for the one row that its window shows, a frame and a slot for the row that their ruling names. A change goes on to `carry` with the reference at its own lifetime, which gives back what says its last value. The room goes on to `slot_change` in the same way; where
 -- it is not passed, its last value is the one that it has. All that the proof knows of these functions is that they meet their contracts. Written by tools/gen_lent.py.
 {HEAD}
 use Rattle.rules.specs.Steps.{{Step, reset, read, write, sync, syncDue, slot, frame as frameStep, fault, timeout}}
@@ -920,6 +918,15 @@ module _ {G} (W : Given 𝓤 H A) {AM} (κ κ-room : Lft) (q q-room : Share) (b 
 
   asked-windows : (n : ℕ) → n < 2 ^ 8 → {Ctl.is_("h .control")} → ent 𝓤 (emp 𝓤) ({windows.at()} .pre (to-windows n))
   asked-windows n n-fits d-is = qed W [] ∵ nothing ! $ nothing ! $ {owned("n","u8")}{Ctl.owned("h .control","d-is")}fjoin ! $ {CLOSE}
+
+  abbrev args-filled : Ruling → Contents → Ruling × (Contents × (RefT (List ℕ) × Unit {{0}}))
+  args-filled r k = (r, (k, (room-ref, tt)))
+
+  abbrev to-filled : Ruling → Contents → {filled.at()} .Ghost
+  to-filled r k = (((κ-room, tt), (q-room, tt), tt, args-filled r k, ({Rul.val("r")} ∷ [], ({Row.val("k")} ∷ [], (s-room ∷ [], tt)))), tt)
+
+  asked-filled : (r : Ruling) (k : Contents) → {Rul.is_("r")} → {Row.is_("k")} → ent 𝓤 (⋆ 𝓤 H A {WITH_ROOM}) ({filled.at()} .pre (to-filled r k))
+  asked-filled r k r-is k-is = qed W {WITH_ROOM} ∵ {ask_filled}
 
   abbrev args-framed : Ruling → Contents → Ruling × (Contents × (FrameBytes × Unit {{0}}))
   args-framed r k = (r, (k, (f, tt)))

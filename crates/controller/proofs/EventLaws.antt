@@ -14,7 +14,9 @@ use Rattle.contents.specs.Bytes.{noContents, cut, storeFrame, bytesFrom, frameO
 use Rattle.contents.specs.Room.{roomAfter, room-filled}
 use Rattle.rules.specs.Refusals.{refuses11}
 use Rattle.controller.specs.Carry.{rowAt}
-use Rattle.controller.specs.Code.{rowBytes, storedRow}
+use Rattle.rules.specs.declared.Verdict.{Verdict}
+use Rattle.rules.specs.declared.Verdict.the-variants.{Say, Store, Send}
+use Rattle.controller.specs.Code.{rowBytes, storedRow, roomBy, roomSent}
 
 -- ---- a frame's size
 
@@ -96,6 +98,12 @@ pub room-sent : (rows : List Contents) (room : List ℕ) (n : ℕ) → length ro
 room-sent rows room n l h b e =
     room-filled (record { bytes = b }) room h
     ∙ ap (λ (f : List ℕ). fillRoom f room) (ap (λ (x : List ℕ). frameOf (record { bytes = x })) e ∙ frame-row rows n l)
+
+-- the room that the code leaves is the one of the rules, where it has fourteen bytes
+pub sent-room : (rows : List Contents) (room : List ℕ) (v : Verdict) → length rows ≡ 16 → 14 ≤ length room → roomSent rows room v ≡ roomBy rows room v
+sent-room rows room (Say a) l h = refl
+sent-room rows room (Store n a) l h = refl
+sent-room rows room (Send n) l h = room-sent rows room n l h (rowBytes rows n) refl
 
 -- ---- a frame stored in buffer n, w being what `store_frame` gives over its bytes b
 

@@ -7,6 +7,7 @@ use lib.Dec.{eqb, ltb}
 use Rattle.masks.specs.Pick.{pick}
 use Rattle.contents.specs.declared.Contents.{Contents}
 use Rattle.contents.specs.Bytes.{blank, withIdent, withLength, withData, storeFrame, frameOf, fillRoom}
+use Rattle.contents.specs.Room.{roomAfter}
 use Rattle.rules.specs.declared.Answer.{Answer}
 use Rattle.rules.specs.declared.Answer.the-variants.{Value, Sent, Refused}
 use Rattle.rules.specs.declared.Register.{Register}
@@ -45,6 +46,10 @@ changed c x = record { next = record { control = x .control; rows = placed (c .r
 
 -- ---- a ruling carried out, the step's frame being f
 
+-- the fourteen bytes of buffer n, zeros past the last
+unfoldable pub rowBytes : List Contents → ℕ → List ℕ
+rowBytes rows n = pick (ltb n 16) (rowAt rows n .bytes) (replicate 14 0)
+
 abbrev pub storedRow : List Contents → ℕ → List ℕ → List Contents
 storedRow rows n f = set rows n (storeFrame (rowAt rows n) (getD f 0 0) (getD f 1 0) (drop 2 f))
 
@@ -69,6 +74,12 @@ abbrev pub roomBy : List Contents → List ℕ → Verdict → List ℕ
 roomBy rows room (Say a) = room
 roomBy rows room (Store n a) = room
 roomBy rows room (Send n) = fillRoom (frameOf (rowAt rows n)) room
+
+-- the same for a room of any size: one of less than 14 bytes stays as it is
+abbrev pub roomSent : List Contents → List ℕ → Verdict → List ℕ
+roomSent rows room (Say a) = room
+roomSent rows room (Store n a) = room
+roomSent rows room (Send n) = roomAfter (record { bytes = rowBytes rows n }) room
 
 unfoldable pub ruled : Controller → List ℕ → Ruling → Done
 ruled c f r = record { next = record { control = r .next; rows = rowsBy (c .rows) f (r .verdict) }; answer = answerBy (c .rows) (r .verdict) }
@@ -167,10 +178,6 @@ writtenRows c (ReceiveWindow p) v = writeWindow (c .rows) (c .control .receive .
 writtenRows c (FifoWindow p) v = c .rows
 writtenRows c (Bufctl n) v = c .rows
 writtenRows c Reserved v = c .rows
-
--- the fourteen bytes of buffer n, zeros past the last
-unfoldable pub rowBytes : List Contents → ℕ → List ℕ
-rowBytes rows n = pick (ltb n 16) (rowAt rows n .bytes) (replicate 14 0)
 
 -- ---- a call as a value, with the frame's bytes and the room beside it
 

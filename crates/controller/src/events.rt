@@ -1,8 +1,8 @@
 // The bus events, and the five interrupt lines.
 ghost use mathlib.Core.Path.{_≡_};
 ghost use mathlib.Core.Bool.{not};
-ghost use Prim.Native.Nat.{_≤_, _%_};
-ghost use mathlib.Core.List.{List};
+ghost use Prim.Native.Nat.{ℕ, _%_};
+ghost use mathlib.Core.List.{List, []};
 ghost use lib.ListN.{getD, drop, length};
 ghost use Rattle.contents.specs.declared.Contents.{Contents};
 ghost use Rattle.contents.specs.Bytes.{storeFrame};
@@ -15,7 +15,7 @@ ghost use Rattle.rules.specs.Steps.Step.{sync, syncDue, slot, frame, fault, tim
 ghost use Rattle.controller.specs.declared.Controller.{Controller};
 ghost use Rattle.controller.specs.Carry.{heads, rowAt};
 ghost use Rattle.controller.specs.Session.{stepOf};
-ghost use Rattle.controller.specs.Code.{doneOf, storedRow, rowBytes, rowOf, ruled, roomBy, changed};
+ghost use Rattle.controller.specs.Code.{doneOf, storedRow, rowBytes, rowOf, ruled, roomSent, changed};
 use crate::Change;
 use crate::Controller;
 use crate::Done;
@@ -85,6 +85,19 @@ fn stored(c: Control, n: u8, row: Contents, f: &[u8], a: Answer) -> Change
     }
     let b = row.bytes;
     with_bytes(c, n, store_frame(b, f), a)
+}
+
+// The room after a verdict, the row to look at for it being row: a sent frame fills its first bytes.
+fn fill(verdict: Verdict, row: Contents, room: &mut [u8])
+    ensures { λ _. ⌜ ((rows : List Contents) → row ≡ rowAt rows (rowOf verdict) → now (room .exit) ≡ roomSent rows (now (room .entry)) verdict) ⌝ }
+{
+    match verdict {
+        Verdict::Say(_) => {}
+        Verdict::Store(_, _) => {}
+        Verdict::Send(n) => {
+            contents::send(bytes_at(n, row), room);
+        }
+    }
 }
 
 impl Controller {
@@ -176,18 +189,14 @@ impl Controller {
         Controller::ruling_change(r, row, f)
     }
 
-    // The room after a verdict: a sent frame fills its first bytes.
-    fn fill(self, verdict: Verdict, room: &mut [u8])
-        requires { ⌜ 14 ≤ length (now room) ⌝ }
-        ensures { λ _. ⌜ now (room .exit) ≡ roomBy (self .rows) (now (room .entry)) verdict ⌝ }
+    // What a slot's ruling changes, the row to look at for it being row; a sent frame fills the room's first bytes.
+    pub fn slot_change(r: Ruling, row: Contents, room: &mut [u8]) -> Change
+        ensures { λ x. ⌜ ((c : Controller) → length (c .rows) ≡ 16 → row ≡ rowAt (c .rows) (rowOf (r .verdict)) → changed c x ≡ ruled c [] r) ⌝ }
+        ensures { λ _. ⌜ ((c : Controller) → row ≡ rowAt (c .rows) (rowOf (r .verdict)) → now (room .exit) ≡ roomSent (c .rows) (now (room .entry)) (r .verdict)) ⌝ }
     {
-        match verdict {
-            Verdict::Say(_) => {}
-            Verdict::Store(_, _) => {}
-            Verdict::Send(n) => {
-                contents::send(self.contents_of(n), room);
-            }
-        }
+        let verdict = r.verdict;
+        fill(verdict, row, room);
+        Controller::ruling_change(r, row, b"")
     }
 
     // A sync of a kind.
@@ -244,19 +253,30 @@ impl Controller {
         self.ruled(bus_steps::on_timeout(c), b"")
     }
 
+    // The ruling of slot i for a room of a size.
+    pub fn slot_ruling(self, i: u8, size: usize) -> Ruling
+        ensures { λ r. ⌜ ((room : List ℕ) → length room ≡ size → ruled self [] r ≡ doneOf (stepOf self (slot i room))) ⌝ }
+        ensures { λ r. ⌜ ((room : List ℕ) → length room ≡ size → roomSent (self .rows) room (r .verdict) ≡ stepOf self (slot i room) .room) ⌝ }
+    {
+        let c = self.control;
+        if size < 14 {
+            return Ruling {
+                next: c,
+                verdict: Verdict::Say(Answer::Refused(12)),
+            };
+        }
+        bus_steps::on_slot(c, i, self.offering(i))
+    }
+
     // Slot i.
     pub fn plan_slot(self, i: u8, room: &mut [u8]) -> Change
         ensures { λ x. ⌜ changed self x ≡ doneOf (stepOf self (slot i (now (room .entry)))) ⌝ }
         ensures { λ _. ⌜ now (room .exit) ≡ stepOf self (slot i (now (room .entry))) .room ⌝ }
     {
-        let c = self.control;
-        if room.len() < 14 {
-            return with_answer(c, Answer::Refused(12));
-        }
-        let r = bus_steps::on_slot(c, i, self.offering(i));
-        let verdict = r.verdict;
-        self.fill(verdict, room);
-        self.ruled(r, b"")
+        let r = self.slot_ruling(i, room.len());
+        let k = Controller::row_of(r);
+        let row = self.rows[k];
+        Controller::slot_change(r, row, room)
     }
 
     // A sync of a kind.

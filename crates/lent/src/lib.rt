@@ -99,7 +99,10 @@ pub fn step(c: &mut Controller, call: Call, f: FrameBytes, room: &mut [u8]) -> A
             carry(c, x)
         }
         Call::Slot(i) => {
-            let x = (*c).plan_slot(i, room);
+            let r = (*c).slot_ruling(i, room.len());
+            let k = Controller::row_of(r);
+            let row = c.rows[k];
+            let x = Controller::slot_change(r, row, room);
             carry(c, x)
         }
         Call::Frame(good) => {

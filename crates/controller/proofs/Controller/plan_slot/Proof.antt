@@ -1,70 +1,55 @@
-use mathlib.Core.List.{[]}
-use mathlib.Core.Path.{sym, ap, _∙_}
-use borrow.Author.Tests.{lt-ltb, le-ltb}
+use mathlib.Core.Path.{refl, sym, ap, _∙_}
+use native.Mathlib.Omega.{arith}
+use lib.ListN.{length-map}
 use borrow.Author.Needs.{needs}
-use lib.ListN.{length}
-use Rattle.rules.specs.declared.Answer.the-variants.{Refused}
-use Rattle.rules.specs.declared.Ruling.{Ruling}
-use Rattle.rules.specs.Refusals.{refuses12}
-use Rattle.controller.specs.Code.{ruled, roomBy}
-use Rattle.controller.specs.CodeLaws.{says-only, slot-step, slot-room, slot-refused, slot-room-refused}
+use Rattle.controller.specs.Carry.{rowAt}
+use Rattle.controller.specs.CodeLaws.{row-within}
 use Rattle.controller.proofs.Controller.plan_slot.Statement.{statement}
 use Rattle.controller.proofs.Controller.plan_slot.Tie as tie
 
-with-answer-requires : tie.Need-with-answer-requires
-with-answer-requires c κs = search needs
+slot-ruling-requires : tie.Need-slot-ruling-requires
+slot-ruling-requires c κs = search needs
 
-returns : tie.Need-returns
-unfolding refuses12
-returns c =
-    let a = c .before .before .before .before .args in
-    let room = a .room .now in
-    let small = lt-ltb (length room) 14 (c .before .if1 .taken) in (
-      says-only (a .self) _ (a .self .control) (Refused 12) (c .with-answer .ensures) ∙ sym (slot-refused (a .self) (a .i) room small),
-      sym (slot-room-refused (a .self) (a .i) room small),
-    )
+row-of-requires : tie.Need-row-of-requires
+row-of-requires c κs = search needs
 
-offering-requires : tie.Need-offering-requires
-offering-requires c κs = search needs
+mul-row : tie.Need-mul-row
+mul-row c =
+    let h = row-within (c .before .slot-ruling .result .verdict) in
+    omega (arith, c .row-of .ensures)
 
-on-slot-requires : tie.Need-on-slot-requires
-on-slot-requires c κs = search needs
+element-copy-out-row : tie.Need-element-copy-out-row
+element-copy-out-row c =
+    let h = row-within (c .before .slot-ruling .result .verdict) in
+    omega (arith, c .row-of .ensures)
 
-fill-requires : tie.Need-fill-requires
-fill-requires c κs = search needs
-
-slice-aggregate-ruled : tie.Need-slice-aggregate-ruled
-slice-aggregate-ruled c = search needs
-
-ruled-requires : tie.Need-ruled-requires
-ruled-requires c κs = search needs
+slot-change-requires : tie.Need-slot-change-requires
+slot-change-requires c κs = search needs
 
 same-length : tie.Need-same-length
 same-length c = search needs
 
-returns-2 : tie.Need-returns-2
-unfolding refuses12
-returns-2 c =
-    let a = c .before .before .before .before .before .before .before .before .before .before .before .args in
-    let room = a .room .now in
-    let large = le-ltb (length room) 14 (c .before .before .before .before .before .before .before .before .if1 .left) in
-    let n = c .before .before .before .before .before .before .before .offering in
-    let r = c .before .before .before .before .before .before .on-slot .ensures in (
-      c .ruled .ensures ∙ ap (ruled (a .self) []) r ∙ sym (slot-step (a .self) (a .i) (n .result) room large (n .ensures)),
-      c .before .before .before .before .fill .ensures ∙ ap (λ (x : Ruling). roomBy (a .self .rows) room (x .verdict)) r
-          ∙ sym (slot-room (a .self) (a .i) (n .result) room large (n .ensures)),
+returns : tie.Need-returns
+returns c =
+    let start = c .before .before .before .before .before .before .before .before in
+    let self = start .args .t1 in
+    let room = start .args .room .now in
+    let sixteen = sym (length-map (self .rows) _) ∙ start .good .0 .1 .1 .1 .0 .1 .0 .1 in
+    let same = ap (rowAt (self .rows)) (c .before .before .before .before .before .row-of .ensures) in
+    let r = c .before .before .before .before .before .before .slot-ruling .ensures in
+    let x = c .before .before .slot-change .ensures in (
+      x .0 self sixteen same ∙ r .0 room refl,
+      x .1 self same ∙ r .1 room refl,
     )
 
 pub plan-slot-spec : {M : Type 1} → statement M
 plan-slot-spec =
     tie.close
     (tie.spec
-    with-answer-requires
-    returns
-    offering-requires
-    on-slot-requires
-    fill-requires
-    slice-aggregate-ruled
-    ruled-requires
+    slot-ruling-requires
+    row-of-requires
+    mul-row
+    element-copy-out-row
+    slot-change-requires
     same-length
-    returns-2)
+    returns)
