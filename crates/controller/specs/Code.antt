@@ -9,7 +9,7 @@ use Rattle.contents.specs.declared.Contents.{Contents}
 use Rattle.contents.specs.Bytes.{blank, withIdent, withLength, withData, storeFrame, frameOf, fillRoom}
 use Rattle.contents.specs.Room.{roomAfter}
 use Rattle.rules.specs.declared.Answer.{Answer}
-use Rattle.rules.specs.declared.Answer.the-variants.{Value, Sent, Refused}
+use Rattle.rules.specs.declared.Answer.the-variants.{Ok, Value, Sent, Refused}
 use Rattle.rules.specs.declared.Register.{Register}
 use Rattle.rules.specs.declared.Register.the-variants.{Mcr, Fsizr, Tcr1, Tcr2, Tcr3, Risr, Gisr, Rier, Gier, Rivec, Tivec, Fidac, Fidmr, Mvr, Pctlbf, Buflock, Fidrj, Fidrmr, TransmitWindow, ReceiveWindow, FifoWindow, Bufctl, Reserved}
 use Rattle.rules.specs.declared.Verdict.{Verdict}
@@ -68,6 +68,12 @@ abbrev pub rowOf : Verdict → ℕ
 rowOf (Say a) = 0
 rowOf (Store n a) = n % 16
 rowOf (Send n) = n % 16
+
+-- the answer of a verdict that only answers
+abbrev pub saidBy : Verdict → Answer
+saidBy (Say a) = a
+saidBy (Store n a) = a
+saidBy (Send n) = Ok
 
 -- the room afterwards
 abbrev pub roomBy : List Contents → List ℕ → Verdict → List ℕ

@@ -16,10 +16,11 @@ use Rattle.contents.specs.Room.{fill-none}
 use Rattle.rules.specs.declared.SyncKind.{SyncKind}
 use Rattle.rules.specs.declared.Fault.{Fault}
 use Rattle.rules.specs.declared.Answer.{Answer}
-use Rattle.rules.specs.declared.Answer.the-variants.{Ok, Value, Refused}
+use Rattle.rules.specs.declared.Answer.the-variants.{Ok, Value, Refused, Ignored, Woke}
 use Rattle.rules.specs.declared.Register.{Register}
 use Rattle.rules.specs.declared.Register.the-variants.{Mcr, Fsizr, Tcr1, Tcr2, Tcr3, Risr, Gisr, Rier, Gier, Rivec, Tivec, Fidac, Fidmr, Mvr, Pctlbf, Buflock, Fidrj, Fidrmr, TransmitWindow, ReceiveWindow, FifoWindow, Bufctl, Reserved}
 use Rattle.rules.specs.declared.Control.{Control}
+use Rattle.rules.specs.declared.Ruling.{Ruling}
 use Rattle.rules.specs.declared.Verdict.{Verdict}
 use Rattle.rules.specs.declared.Verdict.the-variants.{Say, Store, Send}
 use Rattle.rules.specs.Registers.{lowMap, registerAt}
@@ -29,8 +30,8 @@ use Rattle.rules.specs.Plan.{headAt, Move, Reply, say, show, send, Plan, plain}
 use Rattle.rules.specs.Reads.{valueOf, windowReply, readReply}
 use Rattle.rules.specs.Writes.{written, windowMoves, writeMoves}
 use Rattle.rules.specs.Refusals.{refuses1, refuses11, refuses12, firstOf, readRefusal, writeRefusal, refusal}
-use Rattle.rules.specs.Bus.{lookup, offers, judged, received, slotFor, slotted, synced, dueSync, timedOut, faulted}
-use Rattle.rules.specs.Rules.{wakes, sleepsOn, act, decide}
+use Rattle.rules.specs.Bus.{woken, lookup, offers, judged, received, slotFor, slotted, synced, dueSync, timedOut, faulted}
+use Rattle.rules.specs.Rules.{onBus, wakes, sleepsOn, act, decide}
 use Rattle.rules.specs.Hidden.{decide-hide}
 use Rattle.bus_steps.specs.Code.{rulingOf, isReady, syncedOf, dueOf}
 use Rattle.bus_steps.specs.CodeLaws.{Simple, says, stores, sends, synced-ready, due-ready, frame-simple, slot-simple, wakes-simple, sleeps-simple, due-simple}
@@ -40,7 +41,7 @@ use Rattle.controller.specs.declared.Change.{Change}
 use Rattle.controller.specs.Carry.{heads, rowAt, moveAll, answerOf, Outcome, carry, resetState}
 use Rattle.controller.specs.Session.{stepOf}
 use Rattle.controller.specs.View.{head-at}
-use Rattle.controller.specs.Code.{doneOf, answered, placed, changed, rowOf, roomBy, ruled, windowByte, registerValue, writePlace, writeWindow, writtenRows}
+use Rattle.controller.specs.Code.{doneOf, answered, placed, changed, rowOf, saidBy, roomBy, ruled, windowByte, registerValue, writePlace, writeWindow, writtenRows}
 
 not-false : (t : Bool) → not t ≡ false → t ≡ true
 not-false true e = refl
@@ -117,6 +118,36 @@ by-plan c e p d s = ap doneOf (step-plain c e ∙ ap (carry e (c .rows)) d) ∙ 
 
 room-by-plan : (c : Controller) (e : Step) (p : Plan) → decide (c .control) (heads (c .rows)) e ≡ p → Simple p → stepOf c e .room ≡ roomBy (c .rows) (roomIn e) (rulingOf p .verdict)
 room-by-plan c e p d s = ap (λ (o : Outcome). o .room) (step-plain c e ∙ ap (carry e (c .rows)) d) ∙ ruled-room c e p s
+
+-- a plan that only answers: no buffer's bytes are looked at
+pub data OnlySays : Plan → Type 0 where
+  only : (c : Control) (a : Answer) → OnlySays (plain c a)
+
+bus-says : (c : Control) (p q : Plan) → OnlySays p → OnlySays q → OnlySays (onBus c p q)
+unfolding onBus
+bus-says c p q x y =
+    pick-keeps OnlySays (c .mode .init) (λ t. only c Ignored) (λ t. pick-keeps OnlySays (c .mode .slpak) (λ u. x) (λ u. y))
+
+pub wakes-says : (c d : Control) (a : Answer) → OnlySays (wakes c (plain d a))
+wakes-says c d a = bus-says c _ _ (only (woken c) Woke) (only d a)
+
+pub sleeps-says : (c d : Control) (a : Answer) → OnlySays (sleepsOn c (plain d a))
+sleeps-says c d a = bus-says c _ _ (only c Ignored) (only d a)
+
+pub due-says : (c : Control) (m : ℕ) → OnlySays (sleepsOn c (dueOf c m))
+unfolding dueOf
+due-says c m = bus-says c _ _ (only c Ignored) (pick-keeps OnlySays (c .mode .master) (λ t. only _ _) (λ t. only c Ignored))
+
+abbrev saidRuling : Controller → Ruling → Done
+saidRuling c r = record { next = record { control = r .next; rows = c .rows }; answer = saidBy (r .verdict) }
+
+ruled-says : (c : Controller) (p : Plan) → OnlySays p → saidRuling c (rulingOf p) ≡ ruled c [] (rulingOf p)
+unfolding ruled
+ruled-says c p (only d a) = refl
+
+-- x being what `said` makes of its ruling r
+pub said-plan : (c : Controller) (x : Change) (r : Ruling) (p : Plan) → x ≡ saying (r .next) (saidBy (r .verdict)) → r ≡ rulingOf p → OnlySays p → changed c x ≡ ruled c [] (rulingOf p)
+said-plan c x r p e q s = says-only c x (r .next) (saidBy (r .verdict)) e ∙ ap (saidRuling c) q ∙ ruled-says c p s
 
 module _ (c : Controller) where
   pub sync-step : (k : SyncKind) (m : ℕ) → m ≡ maskOf (isReady (c .control) (heads (c .rows))) →

@@ -3,7 +3,7 @@ ghost use mathlib.Core.Path.{_≡_};
 ghost use mathlib.Core.Bool.{not};
 ghost use Prim.Native.Nat.{ℕ, _%_};
 ghost use mathlib.Core.List.{List, []};
-ghost use lib.ListN.{getD, drop, length};
+ghost use lib.ListN.{getD, drop, length, replicate};
 ghost use Rattle.contents.specs.declared.Contents.{Contents};
 ghost use Rattle.contents.specs.Bytes.{storeFrame};
 ghost use Rattle.rules.specs.Refusals.{refuses11};
@@ -15,7 +15,7 @@ ghost use Rattle.rules.specs.Steps.Step.{sync, syncDue, slot, frame, fault, tim
 ghost use Rattle.controller.specs.declared.Controller.{Controller};
 ghost use Rattle.controller.specs.Carry.{heads, rowAt};
 ghost use Rattle.controller.specs.Session.{stepOf};
-ghost use Rattle.controller.specs.Code.{doneOf, storedRow, rowBytes, rowOf, ruled, roomSent, changed};
+ghost use Rattle.controller.specs.Code.{doneOf, storedRow, rowBytes, rowOf, saidBy, ruled, roomSent, changed};
 use crate::Change;
 use crate::Controller;
 use crate::Done;
@@ -87,6 +87,19 @@ fn stored(c: Control, n: u8, row: Contents, f: &[u8], a: Answer) -> Change
     with_bytes(c, n, store_frame(b, f), a)
 }
 
+// A ruling that only answers, as a change.
+fn said(r: Ruling) -> Change
+    ensures { λ x. ⌜ x ≡ record { control = r .next; place = 16; bytes = replicate 14 0; answer = saidBy (r .verdict) } ⌝ }
+{
+    let control = r.next;
+    let verdict = r.verdict;
+    match verdict {
+        Verdict::Say(a) => with_answer(control, a),
+        Verdict::Store(_, a) => with_answer(control, a),
+        Verdict::Send(_) => with_answer(control, Answer::Ok),
+    }
+}
+
 // The room after a verdict, the row to look at for it being row: a sent frame fills its first bytes.
 fn fill(verdict: Verdict, row: Contents, room: &mut [u8])
     ensures { λ _. ⌜ ((rows : List Contents) → row ≡ rowAt rows (rowOf verdict) → now (room .exit) ≡ roomSent rows (now (room .entry)) verdict) ⌝ }
@@ -140,18 +153,6 @@ impl Controller {
         rows::named(r, full)
     }
 
-    // The fourteen bytes of buffer n, zeros past the last.
-    pub fn contents_of(self, n: u8) -> [u8; 14]
-        ensures { λ r. ⌜ r ≡ rowBytes (self .rows) n ⌝ }
-    {
-        if 16 <= n {
-            return [0u8; 14];
-        }
-        let i = n as usize;
-        let row = self.rows[i];
-        row.bytes
-    }
-
     // The row to look at for a ruling: that of its buffer, and any other where it names none.
     pub fn row_of(r: Ruling) -> usize
         ensures { λ i. ⌜ i ≡ rowOf (r .verdict) ⌝ }
@@ -180,15 +181,6 @@ impl Controller {
         }
     }
 
-    // The same, the row being the record's own.
-    fn ruled(self, r: Ruling, f: &[u8]) -> Change
-        ensures { λ x. ⌜ changed self x ≡ ruled self (now (f .entry)) r ⌝ }
-    {
-        let i = Controller::row_of(r);
-        let row = self.rows[i];
-        Controller::ruling_change(r, row, f)
-    }
-
     // What a slot's ruling changes, the row to look at for it being row; a sent frame fills the room's first bytes.
     pub fn slot_change(r: Ruling, row: Contents, room: &mut [u8]) -> Change
         ensures { λ x. ⌜ ((c : Controller) → length (c .rows) ≡ 16 → row ≡ rowAt (c .rows) (rowOf (r .verdict)) → changed c x ≡ ruled c [] r) ⌝ }
@@ -204,7 +196,7 @@ impl Controller {
         ensures { λ x. ⌜ changed self x ≡ doneOf (stepOf self (sync k)) ⌝ }
     {
         let c = self.control;
-        self.ruled(bus_steps::on_sync(c, k, self.named()), b"")
+        said(bus_steps::on_sync(c, k, self.named()))
     }
 
     // A sync due.
@@ -212,7 +204,7 @@ impl Controller {
         ensures { λ x. ⌜ changed self x ≡ doneOf (stepOf self syncDue) ⌝ }
     {
         let c = self.control;
-        self.ruled(bus_steps::on_due(c, self.named()), b"")
+        said(bus_steps::on_due(c, self.named()))
     }
 
     // The ruling of a frame: its verdict and its bytes.
@@ -234,7 +226,10 @@ impl Controller {
     pub fn plan_frame(self, good: bool, f: &[u8]) -> Change
         ensures { λ x. ⌜ changed self x ≡ doneOf (stepOf self (frame good (now (f .entry)))) ⌝ }
     {
-        self.ruled(self.frame_ruling(good, f), f)
+        let r = self.frame_ruling(good, f);
+        let i = Controller::row_of(r);
+        let row = self.rows[i];
+        Controller::ruling_change(r, row, f)
     }
 
     // A fault of the bus.
@@ -242,7 +237,7 @@ impl Controller {
         ensures { λ x. ⌜ changed self x ≡ doneOf (stepOf self (fault k)) ⌝ }
     {
         let c = self.control;
-        self.ruled(bus_steps::on_fault(c, k), b"")
+        said(bus_steps::on_fault(c, k))
     }
 
     // The alarm timeout.
@@ -250,7 +245,7 @@ impl Controller {
         ensures { λ x. ⌜ changed self x ≡ doneOf (stepOf self timeout) ⌝ }
     {
         let c = self.control;
-        self.ruled(bus_steps::on_timeout(c), b"")
+        said(bus_steps::on_timeout(c))
     }
 
     // The ruling of slot i for a room of a size.

@@ -1,26 +1,24 @@
-use mathlib.Core.List.{[]}
-use mathlib.Core.Path.{sym, ap, _∙_}
+use mathlib.Core.Path.{sym, _∙_}
 use borrow.Author.Needs.{needs}
-use Rattle.controller.specs.Code.{ruled}
-use Rattle.controller.specs.CodeLaws.{timeout-step}
+use Rattle.rules.specs.declared.Answer.the-variants.{Ok}
+use Rattle.rules.specs.Plan.{plain}
+use Rattle.rules.specs.Bus.{timedOut}
+use Rattle.rules.specs.Rules.{sleepsOn}
+use Rattle.controller.specs.CodeLaws.{said-plan, sleeps-says, timeout-step}
 use Rattle.controller.proofs.Controller.plan_timeout.Statement.{statement}
 use Rattle.controller.proofs.Controller.plan_timeout.Tie as tie
 
 on-timeout-requires : tie.Need-on-timeout-requires
 on-timeout-requires c κs = search needs
 
-slice-aggregate-ruled : tie.Need-slice-aggregate-ruled
-slice-aggregate-ruled c = search needs
-
-ruled-requires : tie.Need-ruled-requires
-ruled-requires c κs = search needs
+said-requires : tie.Need-said-requires
+said-requires c κs = search needs
 
 returns : tie.Need-returns
 returns c =
-    let a = c .before .before .before .before .args in
-    c .ruled .ensures ∙ ap (ruled (a .self) []) (c .before .before .on-timeout .ensures)
+    let a = c .before .before .before .args in
+    said-plan (a .self) _ _ (sleepsOn (a .self .control) (plain (timedOut (a .self .control)) Ok)) (c .said .ensures) (c .before .on-timeout .ensures) (sleeps-says (a .self .control) _ Ok)
     ∙ sym (timeout-step (a .self))
 
 pub plan-timeout-spec : {M : Type 1} → statement M
-plan-timeout-spec =
-    tie.close (tie.spec on-timeout-requires slice-aggregate-ruled ruled-requires returns)
+plan-timeout-spec = tie.close (tie.spec on-timeout-requires said-requires returns)
