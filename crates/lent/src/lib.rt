@@ -57,7 +57,7 @@ fn carry(c: &mut Controller, x: Change) -> Answer
     x.answer
 }
 
-// The step of a frame whose bytes are a slice: a copy of them would take longer than the step.
+// The step of a frame whose bytes are a slice: none of them is copied but to a buffer.
 pub fn frame(c: &mut Controller, good: bool, f: &[u8]) -> Answer
     ensures { λ r. ⌜ (now (c .exit) ≡ doneOf (stepOf (now (c .entry)) (frameStep good (now (f .entry)))) .next) × (r ≡ doneOf (stepOf (now (c .entry)) (frameStep good (now (f .entry)))) .answer) ⌝ }
 {
