@@ -497,7 +497,7 @@ def frame():
     def change(w,fact):
         passed(changer,f"(to-changer r ({ROW}))",f"(args-changer r ({ROW}))",f"(asked-changer r ({ROW}) r-is k-is)",lambda:[w.load(4),w.load(6),w.load(3)],"Change","x",Cha.row(),fact,"d")
         w.emit(Cha.peeks("x","(v ∷ [])")+"(λ is. drop ! $ split ! $\n"); w.give(2,["t-f","true"])
-    ruling(lemma,w,LT,ctx,val,held,[8],L,4,7,[piece(k) for k in (3,4,9)],RET,"f",GOAL,"","",change,"carrying x (change-is x _ is) (d h sixteen (ap (rowAt (h .rows)) p) ∙ e)")
+    ruling(lemma,w,LT,ctx,val,held,[8],L,4,7,codes("ruling"),RET,"f",GOAL,"","",change,"carrying x (change-is x _ is) (d h sixteen (ap (rowAt (h .rows)) p) ∙ e)")
     lemma("-- the record is copied out, and the frame's ruling is had","ruling","","ruling",piece(1),RET,start,first)
     # ---- what is asked, and what is had at exit
     w=Walk(6); w.ctx=list(end); w.emit("nothing ! $ "); w.give(0,["t"]); w.to(["t-f","t"]); w.emit("join ! $ "); w.give(2,["t"]); w.to(["tok","t"]); w.emit("join ! $ frame ! $\n"); w.give(2,[])
@@ -532,6 +532,8 @@ stayed = (gave-ref (0 ∷ []) tt (plain (λ _. T.the-row)), (stay-none (λ _. bo
 answer-is : (x : Answer) (vs : List Val) → Is {Ans.row()} x vs → {Ans.is_("x")}
 answer-is x vs g = subst (Is {Ans.row()} x) ({Ans.tells()} x vs g) g
 
+-- the code from the row on, written out: taken from the function's own it costs the kernel more
+{L.code("ruling",f"callᴹ #rows ({cp(4)} ∷ [])",piece(9))}
 module _ {G} (W : Given 𝓤 H A) {AM} (κ κ-f : Lft) (q q-f : Share) (b o : ℕ) (γ : GName) (h : Controller) (good : Bool) (b-f o-f : ℕ) (γ-f : GName) (f : List ℕ) (f-room : Room u8 (length f)) where
   abbrev rec : RefT Controller
   rec = record {{ ptr = (b, o); name = γ; now = h }}
