@@ -1,6 +1,6 @@
 // Reset, and the register calls.
 ghost use mathlib.Core.Path.{_≡_};
-ghost use Prim.Native.Nat.{_%_};
+ghost use Prim.Native.Nat.{_+_, _%_};
 ghost use mathlib.Core.List.{List};
 ghost use lib.ListN.{length};
 ghost use Rattle.contents.specs.declared.Contents.{Contents};
@@ -97,6 +97,18 @@ fn write_rows(holders: Control, c: Control, register: Register, v: u8, row: Cont
         Register::ReceiveWindow(p) => write_window(c, holders.receive.holder, p, v, row),
         _ => with_answer(c, Answer::Ok),
     }
+}
+
+// What a write of buffer n's control register changes, the control state being c. Test code writes these registers most: they
+// have a path of their own from the address on.
+fn control_change(c: Control, n: u8, v: u8) -> Change
+    ensures { λ x. ⌜ ((d : Controller) → d .control ≡ c → changed d x ≡ doneOf (stepOf d (write (0x50 + n) v))) ⌝ }
+{
+    let k = refusals::control_write_refusal(c, n, v);
+    if k != 0 {
+        return with_answer(c, Answer::Refused(k));
+    }
+    with_answer(writes::written_control(c, n, v), Answer::Ok)
 }
 
 impl Controller {
@@ -203,12 +215,12 @@ impl Controller {
     pub fn write_change(c: Control, a: u8, v: u8, row: Contents) -> Change
         ensures { λ x. ⌜ ((d : Controller) → d .control ≡ c → length (d .rows) ≡ 16 → row ≡ rowAt (d .rows) (windowRow c (registerAt a)) → changed d x ≡ doneOf (stepOf d (write a v))) ⌝ }
     {
+        if 0x50 <= a {
+            return control_change(c, a - 0x50, v);
+        }
         let k = refusals::write_refusal(c, a, v);
         if k != 0 {
             return with_answer(c, Answer::Refused(k));
-        }
-        if 0x50 <= a {
-            return with_answer(writes::written_control(c, a - 0x50, v), Answer::Ok);
         }
         let register = status::reads::register_at(a);
         write_rows(c, writes::written_low(c, register, v), register, v, row)

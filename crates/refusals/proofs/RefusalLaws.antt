@@ -1,10 +1,10 @@
 -- Laws for the refusals: what an `||` or `&&` of the code joins, the numbers in their order, the buffers that FSIZ moves.
-use Prim.Native.Nat.{ℕ, _-_, _%_, _<_, _≤_}
+use Prim.Native.Nat.{ℕ, _+_, _-_, _%_, _<_, _≤_}
 use mathlib.Core.Bool.{Bool, true, false, not, _&&_, _||_, Bool·beq}
 use mathlib.Core.Logic.{_⊎_, ⊎-elim}
-use mathlib.Core.Path.{_≡_, refl, ap, sym, _∙_, subst}
+use mathlib.Core.Path.{_≡_, refl, ap, ap₂, sym, _∙_, subst}
 use native.Mathlib.Omega.{arith}
-use borrow.Author.Tests.{ne-eqb, le-leb, lt-leb, ltb-true, ltb-false}
+use borrow.Author.Tests.{ne-eqb, lt-ltb, le-ltb, le-leb, lt-leb, ltb-true, ltb-false}
 use native.Mathlib.Nat.{le-refl}
 use lib.Bits.{bitAnd, bitOr}
 use lib.Dec.{eqb, ltb, leb}
@@ -54,7 +54,7 @@ pub read-order : (c : Control) (a : ℕ) → readRefusal c a ≡ pick (ltb 0x5F 
 unfolding readRefusal firstOf refuses1
 read-order c a = refl
 
-pub write-order : (c : Control) (a v : ℕ) → writeRefusal c a v
+write-order : (c : Control) (a v : ℕ) → writeRefusal c a v
     ≡ pick (ltb 0x5F a) 1 (pick (refuses2 c a) 2 (pick (refuses3 a) 3 (pick (refuses4 c a) 4 (pick (refuses5 c a) 5 (lateRefusal c a v)))))
 unfolding writeRefusal lateRefusal firstOf refuses1
 write-order c a v = refl
@@ -117,7 +117,7 @@ size-either c n =
     (λ t. le-leb (c .config .fsiz) n (ltb-false n (c .config .fsiz) t) ∙ sym (ap not t))
 
 module _ (c : Control) (a v : ℕ) where
-  pub control-order : 0x50 ≤ a → pick (refuses3 a) 3 (pick (refuses4 c a) 4 (pick (refuses5 c a) 5 (lateRefusal c a v))) ≡ controlRefusal c (a - 0x50) v
+  control-order : 0x50 ≤ a → pick (refuses3 a) 3 (pick (refuses4 c a) 4 (pick (refuses5 c a) 5 (lateRefusal c a v))) ≡ controlRefusal c (a - 0x50) v
   unfolding refuses3 refuses4 onlyInInit refuses5 lateRefusal firstOf refuses6 refuses7 refuses8 refuses9 refuses10 movedByCfg notOldest noLockLeft newLock controlRefusal lockRefusal
   control-order h =
       simp (
@@ -142,10 +142,37 @@ module _ (c : Control) (a v : ℕ) where
       (one-pass (isLocked c (a - 0x50)) (not (Bool·beq (cfgAfter c (a - 0x50) v) (isTransmit c (a - 0x50)))) (has v LOCK) (cfgAfter c (a - 0x50) v)
       (ltb (a - 0x50) (c .config .fsiz)) (isOldest c (a - 0x50)) (isFull (c .transmit)) (isFull (c .receive)))
 
-  pub low-order : a < 0x50 → lateRefusal c a v ≡ lowRefusal c a v
+  low-order : a < 0x50 → lateRefusal c a v ≡ lowRefusal c a v
   unfolding lateRefusal firstOf refuses7 refuses9 refuses10 lowRefusal
   low-order h = simp (lt-leb 0x50 a h, or-false, pick-false)
     where
       or-false : (t : Bool) → (t || false) ≡ t
       or-false true = refl
       or-false false = refl
+
+  pub low-write : a < 0x50 → writeRefusal c a v
+      ≡ pick (refuses2 c a) 2 (pick (refuses3 a) 3 (pick (refuses4 c a) 4 (pick (refuses5 c a) 5 (lowRefusal c a v))))
+  low-write h = simp (write-order, le-ltb 0x5F a (omega arith), pick-false, low-order h)
+
+-- a control register by its buffer: 1 past the last, 2 asleep, else what the one pass gives
+module _ (c : Control) (n v : ℕ) where
+  past-last : ltb 0x5F (0x50 + n) ≡ ltb 15 n
+  past-last =
+      by-test (ltb 15 n)
+      (λ t. lt-ltb 0x5F (0x50 + n) (let over = ltb-true 15 n t in omega arith) ∙ sym t)
+      (λ t. le-ltb 0x5F (0x50 + n) (let within = ltb-false 15 n t in omega arith) ∙ sym t)
+
+  asleep : refuses2 c (0x50 + n) ≡ c .mode .slpak
+  unfolding refuses2
+  asleep = ap (λ (t : Bool). c .mode .slpak && not t) (far (0x50 + n) 0x00 (omega arith) (omega arith)) ∙ and-true (c .mode .slpak)
+    where
+      and-true : (t : Bool) → (t && true) ≡ t
+      and-true true = refl
+      and-true false = refl
+
+  pub control-write : writeRefusal c (0x50 + n) v ≡ pick (ltb 15 n) 1 (pick (c .mode .slpak) 2 (controlRefusal c n v))
+  control-write =
+      write-order c (0x50 + n) v
+      ∙ ap₂ (λ (t : Bool) (k : ℕ). pick t 1 k) past-last
+      (ap₂ (λ (t : Bool) (k : ℕ). pick t 2 k) asleep
+      (control-order c (0x50 + n) v (omega arith) ∙ ap (λ (k : ℕ). controlRefusal c k v) (omega arith)))

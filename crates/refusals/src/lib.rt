@@ -1,6 +1,6 @@
 // The refusals of register calls: each as a test, and the lowest number that applies. Those of the control registers, which test
 // code writes most, are judged in one pass.
-ghost use Prim.Native.Nat.{_%_};
+ghost use Prim.Native.Nat.{_+_, _%_};
 ghost use mathlib.Core.Bool.{_&&_};
 ghost use mathlib.Core.Path.{_≡_};
 ghost use lib.Dec.{eqb};
@@ -111,7 +111,7 @@ fn lock_refusal(c: Control, n: u8, cfg: bool) -> u8
     if rx.is_full() { 10 } else { 0 }
 }
 
-// The refusals that a write of buffer n's control register can have once the module is awake: 7 if it is locked and its kind
+// The refusals that a write of buffer n's control register can have in an awake module: 7 if it is locked and its kind
 // changes, 9 or 10 if it is not and is to be locked, 0 for none.
 fn control_refusal(c: Control, n: u8, v: u8) -> u8
     ensures { λ r. ⌜ r ≡ controlRefusal c n v ⌝ }
@@ -155,18 +155,28 @@ fn low_refusal(c: Control, a: u8, v: u8) -> u8
     0
 }
 
+// The refusal of a write of buffer n's control register, 0 for none. From 16 on there is none: 1.
+pub fn control_write_refusal(c: Control, n: u8, v: u8) -> u8
+    ensures { λ r. ⌜ r ≡ writeRefusal c (0x50 + n) v ⌝ }
+{
+    if 15 < n {
+        return 1;
+    }
+    if c.mode.slpak {
+        return 2;
+    }
+    control_refusal(c, n, v)
+}
+
 // The refusal of a register write, 0 for none.
 pub fn write_refusal(c: Control, a: u8, v: u8) -> u8
     ensures { λ r. ⌜ r ≡ writeRefusal c a v ⌝ }
 {
-    if 0x5F < a {
-        return 1;
+    if 0x50 <= a {
+        return control_write_refusal(c, a - 0x50, v);
     }
     if refuses2(c, a) {
         return 2;
-    }
-    if 0x50 <= a {
-        return control_refusal(c, a - 0x50, v);
     }
     if refuses3(a) {
         return 3;
