@@ -69,6 +69,10 @@ rowOf (Say a) = 0
 rowOf (Store n a) = n % 16
 rowOf (Send n) = n % 16
 
+-- the control state d with the configuration and the locks of c: after an event of the bus, from c, that is d itself
+unfoldable pub keptFrom : Control → Control → Control
+keptFrom c d = record { mode = d .mode; config = c .config; events = d .events; fifo = d .fifo; receive = c .receive; transmit = c .transmit; buffers = d .buffers }
+
 -- the answer of a verdict that only answers
 abbrev pub saidBy : Verdict → Answer
 saidBy (Say a) = a

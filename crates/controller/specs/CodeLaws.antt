@@ -15,6 +15,7 @@ use Rattle.contents.specs.Bytes.{Head, headOf, blank, dataAt, noContents, fillR
 use Rattle.contents.specs.Room.{fill-none}
 use Rattle.rules.specs.declared.SyncKind.{SyncKind}
 use Rattle.rules.specs.declared.Fault.{Fault}
+use Rattle.rules.specs.declared.Fault.the-variants.{Early, Lost, Illegal, Mismatch}
 use Rattle.rules.specs.declared.Answer.{Answer}
 use Rattle.rules.specs.declared.Answer.the-variants.{Ok, Value, Refused, Ignored, Woke}
 use Rattle.rules.specs.declared.Register.{Register}
@@ -30,7 +31,8 @@ use Rattle.rules.specs.Plan.{headAt, Move, Reply, say, show, send, Plan, plain}
 use Rattle.rules.specs.Reads.{valueOf, windowReply, readReply}
 use Rattle.rules.specs.Writes.{written, windowMoves, writeMoves}
 use Rattle.rules.specs.Refusals.{refuses1, refuses11, refuses12, firstOf, readRefusal, writeRefusal, refusal}
-use Rattle.rules.specs.Bus.{woken, lookup, offers, judged, received, slotFor, slotted, synced, dueSync, timedOut, faulted}
+use Rattle.rules.specs.Modes.{wake}
+use Rattle.rules.specs.Bus.{woken, dueKind, lookup, offers, judged, received, slotFor, slotted, synced, dueSync, timedOut, faulted}
 use Rattle.rules.specs.Rules.{onBus, wakes, sleepsOn, act, decide}
 use Rattle.rules.specs.Hidden.{decide-hide}
 use Rattle.bus_steps.specs.Code.{rulingOf, isReady, syncedOf, dueOf}
@@ -41,7 +43,7 @@ use Rattle.controller.specs.declared.Change.{Change}
 use Rattle.controller.specs.Carry.{heads, rowAt, moveAll, answerOf, Outcome, carry, resetState}
 use Rattle.controller.specs.Session.{stepOf}
 use Rattle.controller.specs.View.{head-at}
-use Rattle.controller.specs.Code.{doneOf, answered, placed, changed, rowOf, saidBy, roomBy, ruled, windowByte, registerValue, writePlace, writeWindow, writtenRows}
+use Rattle.controller.specs.Code.{doneOf, answered, placed, changed, rowOf, saidBy, keptFrom, roomBy, ruled, windowByte, registerValue, writePlace, writeWindow, writtenRows}
 
 not-false : (t : Bool) → not t ≡ false → t ≡ true
 not-false true e = refl
@@ -119,35 +121,62 @@ by-plan c e p d s = ap doneOf (step-plain c e ∙ ap (carry e (c .rows)) d) ∙ 
 room-by-plan : (c : Controller) (e : Step) (p : Plan) → decide (c .control) (heads (c .rows)) e ≡ p → Simple p → stepOf c e .room ≡ roomBy (c .rows) (roomIn e) (rulingOf p .verdict)
 room-by-plan c e p d s = ap (λ (o : Outcome). o .room) (step-plain c e ∙ ap (carry e (c .rows)) d) ∙ ruled-room c e p s
 
--- a plan that only answers: no buffer's bytes are looked at
-pub data OnlySays : Plan → Type 0 where
-  only : (c : Control) (a : Answer) → OnlySays (plain c a)
+-- a plan that only answers, from the control state c: no buffer's bytes are looked at, and the configuration and the locks stay
+pub data OnlySays (c : Control) : Plan → Type 0 where
+  only : (d : Control) (a : Answer) → keptFrom c d ≡ d → OnlySays c (plain d a)
 
-bus-says : (c : Control) (p q : Plan) → OnlySays p → OnlySays q → OnlySays (onBus c p q)
+same-kept : (c : Control) → keptFrom c c ≡ c
+unfolding keptFrom
+same-kept c = refl
+
+woken-kept : (c : Control) → keptFrom c (woken c) ≡ woken c
+unfolding keptFrom woken wake
+woken-kept c = refl
+
+pub synced-kept : (k : SyncKind) (c : Control) (m : ℕ) → keptFrom c (syncedOf k c m) ≡ syncedOf k c m
+unfolding keptFrom syncedOf
+synced-kept k c m = refl
+
+pub faulted-kept : (k : Fault) (c : Control) → keptFrom c (faulted k c) ≡ faulted k c
+unfolding keptFrom faulted
+faulted-kept Early c = refl
+faulted-kept Lost c = refl
+faulted-kept Illegal c = refl
+faulted-kept Mismatch c = refl
+
+pub timed-out-kept : (c : Control) → keptFrom c (timedOut c) ≡ timedOut c
+unfolding keptFrom timedOut
+timed-out-kept c = refl
+
+bus-says : (c : Control) (p q : Plan) → OnlySays c p → OnlySays c q → OnlySays c (onBus c p q)
 unfolding onBus
 bus-says c p q x y =
-    pick-keeps OnlySays (c .mode .init) (λ t. only c Ignored) (λ t. pick-keeps OnlySays (c .mode .slpak) (λ u. x) (λ u. y))
+    pick-keeps (OnlySays c) (c .mode .init) (λ t. only c Ignored (same-kept c)) (λ t. pick-keeps (OnlySays c) (c .mode .slpak) (λ u. x) (λ u. y))
 
-pub wakes-says : (c d : Control) (a : Answer) → OnlySays (wakes c (plain d a))
-wakes-says c d a = bus-says c _ _ (only (woken c) Woke) (only d a)
+pub wakes-says : (c d : Control) (a : Answer) → keptFrom c d ≡ d → OnlySays c (wakes c (plain d a))
+wakes-says c d a k = bus-says c _ _ (only (woken c) Woke (woken-kept c)) (only d a k)
 
-pub sleeps-says : (c d : Control) (a : Answer) → OnlySays (sleepsOn c (plain d a))
-sleeps-says c d a = bus-says c _ _ (only c Ignored) (only d a)
+pub sleeps-says : (c d : Control) (a : Answer) → keptFrom c d ≡ d → OnlySays c (sleepsOn c (plain d a))
+sleeps-says c d a k = bus-says c _ _ (only c Ignored (same-kept c)) (only d a k)
 
-pub due-says : (c : Control) (m : ℕ) → OnlySays (sleepsOn c (dueOf c m))
+pub due-says : (c : Control) (m : ℕ) → OnlySays c (sleepsOn c (dueOf c m))
 unfolding dueOf
-due-says c m = bus-says c _ _ (only c Ignored) (pick-keeps OnlySays (c .mode .master) (λ t. only _ _) (λ t. only c Ignored))
+due-says c m =
+    bus-says c _ _ (only c Ignored (same-kept c))
+    (pick-keeps (OnlySays c) (c .mode .master) (λ t. only _ _ (synced-kept (dueKind c) c m)) (λ t. only c Ignored (same-kept c)))
 
 abbrev saidRuling : Controller → Ruling → Done
-saidRuling c r = record { next = record { control = r .next; rows = c .rows }; answer = saidBy (r .verdict) }
+saidRuling c r = record { next = record { control = keptFrom (c .control) (r .next); rows = c .rows }; answer = saidBy (r .verdict) }
 
-ruled-says : (c : Controller) (p : Plan) → OnlySays p → saidRuling c (rulingOf p) ≡ ruled c [] (rulingOf p)
+ruled-says : (c : Controller) (p : Plan) → OnlySays (c .control) p → saidRuling c (rulingOf p) ≡ ruled c [] (rulingOf p)
 unfolding ruled
-ruled-says c p (only d a) = refl
+ruled-says c p (only d a k) = ap (λ (h : Control). answered (record { control = h; rows = c .rows }) a) k
 
 -- x being what `said` makes of its ruling r
-pub said-plan : (c : Controller) (x : Change) (r : Ruling) (p : Plan) → x ≡ saying (r .next) (saidBy (r .verdict)) → r ≡ rulingOf p → OnlySays p → changed c x ≡ ruled c [] (rulingOf p)
-said-plan c x r p e q s = says-only c x (r .next) (saidBy (r .verdict)) e ∙ ap (saidRuling c) q ∙ ruled-says c p s
+pub said-plan : (c : Controller) (x : Change) (r : Ruling) (p : Plan) → x ≡ saying (keptFrom (c .control) (r .next)) (saidBy (r .verdict)) → r ≡ rulingOf p → OnlySays (c .control) p
+    → changed c x ≡ ruled c [] (rulingOf p)
+said-plan c x r p e q s =
+    says-only c x (keptFrom (c .control) (r .next)) (saidBy (r .verdict)) e ∙ ap (saidRuling c) q ∙ ruled-says c p s
 
 module _ (c : Controller) where
   pub sync-step : (k : SyncKind) (m : ℕ) → m ≡ maskOf (isReady (c .control) (heads (c .rows))) →

@@ -15,7 +15,7 @@ ghost use Rattle.rules.specs.Steps.Step.{sync, syncDue, slot, frame, fault, tim
 ghost use Rattle.controller.specs.declared.Controller.{Controller};
 ghost use Rattle.controller.specs.Carry.{heads, rowAt};
 ghost use Rattle.controller.specs.Session.{stepOf};
-ghost use Rattle.controller.specs.Code.{doneOf, storedRow, rowBytes, rowOf, saidBy, ruled, roomSent, changed};
+ghost use Rattle.controller.specs.Code.{doneOf, storedRow, rowBytes, rowOf, saidBy, keptFrom, ruled, roomSent, changed};
 use crate::Change;
 use crate::Controller;
 use crate::Done;
@@ -87,11 +87,27 @@ fn stored(c: Control, n: u8, row: Contents, f: &[u8], a: Answer) -> Change
     with_bytes(c, n, store_frame(b, f), a)
 }
 
-// A ruling that only answers, as a change.
-fn said(r: Ruling) -> Change
-    ensures { λ x. ⌜ x ≡ record { control = r .next; place = 16; bytes = replicate 14 0; answer = saidBy (r .verdict) } ⌝ }
+// The control state d with the configuration and the locks of c. No event of the bus changes these: taken from c, from before the
+// step, they are seen to be in their places already, and are not written back.
+fn kept_from(c: Control, d: Control) -> Control
+    ensures { λ r. ⌜ r ≡ keptFrom c d ⌝ }
 {
-    let control = r.next;
+    let config = c.config;
+    let receive = c.receive;
+    let transmit = c.transmit;
+    let mut next = d;
+    next.config = config;
+    next.receive = receive;
+    next.transmit = transmit;
+    next
+}
+
+// A ruling that only answers, as a change of the control state c.
+fn said(c: Control, r: Ruling) -> Change
+    ensures { λ x. ⌜ x ≡ record { control = keptFrom c (r .next); place = 16; bytes = replicate 14 0; answer = saidBy (r .verdict) } ⌝ }
+{
+    let d = r.next;
+    let control = kept_from(c, d);
     let verdict = r.verdict;
     match verdict {
         Verdict::Say(a) => with_answer(control, a),
@@ -196,7 +212,7 @@ impl Controller {
         ensures { λ x. ⌜ changed self x ≡ doneOf (stepOf self (sync k)) ⌝ }
     {
         let c = self.control;
-        said(bus_steps::on_sync(c, k, self.named()))
+        said(c, bus_steps::on_sync(c, k, self.named()))
     }
 
     // A sync due.
@@ -204,7 +220,7 @@ impl Controller {
         ensures { λ x. ⌜ changed self x ≡ doneOf (stepOf self syncDue) ⌝ }
     {
         let c = self.control;
-        said(bus_steps::on_due(c, self.named()))
+        said(c, bus_steps::on_due(c, self.named()))
     }
 
     // The ruling of a frame: its verdict and its bytes.
@@ -237,7 +253,7 @@ impl Controller {
         ensures { λ x. ⌜ changed self x ≡ doneOf (stepOf self (fault k)) ⌝ }
     {
         let c = self.control;
-        said(bus_steps::on_fault(c, k))
+        said(c, bus_steps::on_fault(c, k))
     }
 
     // The alarm timeout.
@@ -245,7 +261,7 @@ impl Controller {
         ensures { λ x. ⌜ changed self x ≡ doneOf (stepOf self timeout) ⌝ }
     {
         let c = self.control;
-        said(bus_steps::on_timeout(c))
+        said(c, bus_steps::on_timeout(c))
     }
 
     // The ruling of slot i for a room of a size.

@@ -4,7 +4,7 @@ use Rattle.rules.specs.declared.Answer.the-variants.{Ok}
 use Rattle.rules.specs.Plan.{plain}
 use Rattle.rules.specs.Bus.{faulted}
 use Rattle.rules.specs.Rules.{wakes}
-use Rattle.controller.specs.CodeLaws.{said-plan, wakes-says, fault-step}
+use Rattle.controller.specs.CodeLaws.{said-plan, faulted-kept, wakes-says, fault-step}
 use Rattle.controller.proofs.Controller.plan_fault.Statement.{statement}
 use Rattle.controller.proofs.Controller.plan_fault.Tie as tie
 
@@ -17,7 +17,7 @@ said-requires c κs = search needs
 returns : tie.Need-returns
 returns c =
     let a = c .before .before .before .args in
-    said-plan (a .self) _ _ (wakes (a .self .control) (plain (faulted (a .k) (a .self .control)) Ok)) (c .said .ensures) (c .before .on-fault .ensures) (wakes-says (a .self .control) _ Ok)
+    said-plan (a .self) _ _ (wakes (a .self .control) (plain (faulted (a .k) (a .self .control)) Ok)) (c .said .ensures) (c .before .on-fault .ensures) (wakes-says (a .self .control) _ Ok (faulted-kept (a .k) (a .self .control)))
     ∙ sym (fault-step (a .self) (a .k))
 
 pub plan-fault-spec : {M : Type 1} → statement M

@@ -4,7 +4,7 @@ use Rattle.rules.specs.declared.Answer.the-variants.{Ok}
 use Rattle.rules.specs.Plan.{plain}
 use Rattle.rules.specs.Rules.{wakes}
 use Rattle.bus_steps.specs.Code.{syncedOf}
-use Rattle.controller.specs.CodeLaws.{said-plan, wakes-says, sync-step}
+use Rattle.controller.specs.CodeLaws.{said-plan, synced-kept, wakes-says, sync-step}
 use Rattle.controller.proofs.Controller.plan_sync.Statement.{statement}
 use Rattle.controller.proofs.Controller.plan_sync.Tie as tie
 
@@ -20,7 +20,7 @@ said-requires c κs = search needs
 returns : tie.Need-returns
 returns c =
     let a = c .before .before .before .before .args in
-    said-plan (a .self) _ _ (wakes (a .self .control) (plain (syncedOf (a .k) (a .self .control) (c .before .before .named .result)) Ok)) (c .said .ensures) (c .before .on-sync .ensures) (wakes-says (a .self .control) _ Ok)
+    said-plan (a .self) _ _ (wakes (a .self .control) (plain (syncedOf (a .k) (a .self .control) (c .before .before .named .result)) Ok)) (c .said .ensures) (c .before .on-sync .ensures) (wakes-says (a .self .control) _ Ok (synced-kept (a .k) (a .self .control) (c .before .before .named .result)))
     ∙ sym (sync-step (a .self) (a .k) (c .before .before .named .result) (c .before .before .named .ensures))
 
 pub plan-sync-spec : {M : Type 1} → statement M

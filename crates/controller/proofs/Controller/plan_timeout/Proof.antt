@@ -4,7 +4,7 @@ use Rattle.rules.specs.declared.Answer.the-variants.{Ok}
 use Rattle.rules.specs.Plan.{plain}
 use Rattle.rules.specs.Bus.{timedOut}
 use Rattle.rules.specs.Rules.{sleepsOn}
-use Rattle.controller.specs.CodeLaws.{said-plan, sleeps-says, timeout-step}
+use Rattle.controller.specs.CodeLaws.{said-plan, timed-out-kept, sleeps-says, timeout-step}
 use Rattle.controller.proofs.Controller.plan_timeout.Statement.{statement}
 use Rattle.controller.proofs.Controller.plan_timeout.Tie as tie
 
@@ -17,7 +17,7 @@ said-requires c κs = search needs
 returns : tie.Need-returns
 returns c =
     let a = c .before .before .before .args in
-    said-plan (a .self) _ _ (sleepsOn (a .self .control) (plain (timedOut (a .self .control)) Ok)) (c .said .ensures) (c .before .on-timeout .ensures) (sleeps-says (a .self .control) _ Ok)
+    said-plan (a .self) _ _ (sleepsOn (a .self .control) (plain (timedOut (a .self .control)) Ok)) (c .said .ensures) (c .before .on-timeout .ensures) (sleeps-says (a .self .control) _ Ok (timed-out-kept (a .self .control)))
     ∙ sym (timeout-step (a .self))
 
 pub plan-timeout-spec : {M : Type 1} → statement M
