@@ -4,7 +4,7 @@ use mathlib.Core.Bool.{Bool, true, _&&_, not}
 use mathlib.Core.List.{List, [], _∷_}
 use lib.Dec.{eqb}
 use Rattle.masks.specs.Pick.{pick}
-use Rattle.masks.specs.Bits.{bitOf, maskOf, putBit}
+use Rattle.masks.specs.Bits.{bitOf, maskOf}
 use Rattle.contents.specs.Bytes.{Head}
 use Rattle.rules.specs.declared.SyncKind.{SyncKind}
 use Rattle.rules.specs.declared.Answer.{Answer}
@@ -13,7 +13,7 @@ use Rattle.rules.specs.declared.Verdict.{Verdict}
 use Rattle.rules.specs.declared.Verdict.the-variants.{Say, Store, Send}
 use Rattle.rules.specs.declared.Ruling.{Ruling}
 use Rattle.rules.specs.declared.Control.{Control}
-use Rattle.rules.specs.Record.{withMode, withEvents, withBuffers, withSynced, withLast, withArmed, withIflg}
+use Rattle.rules.specs.Record.{withMode, withEvents, withBuffers, withSynced, withLast, withArmed}
 use Rattle.rules.specs.Kinds.{isFullTransmit, isLocked}
 use Rattle.rules.specs.Bus.{syncEvents, dueKind}
 use Rattle.rules.specs.Plan.{headAt, Move, wipe, setIdent, setLength, setData, store, Reply, say, show, send, Plan, plain}
@@ -58,7 +58,3 @@ unfoldable pub dueOf : Control → ℕ → Plan
 dueOf c m =
     let k = dueKind c in
     pick (c .mode .master) (plain (syncedOf k c m) (Pulse k)) (plain c Ignored)
-
--- IFLG of buffer n set
-abbrev pub flagged : Control → ℕ → Control
-flagged c n = withBuffers c (withIflg (c .buffers) (putBit (c .buffers .iflg) n true))

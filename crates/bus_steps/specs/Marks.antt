@@ -1,4 +1,4 @@
--- What a verdict on a frame marks in the control state, and that the marks are the rules' next state.
+-- What becomes of a frame, as the verdict on it and its marks in the control state, and that this is the rules' ruling.
 use Prim.Native.Nat.{ℕ, _<_, max}
 use mathlib.Core.Bool.{Bool, true, false, _&&_}
 use mathlib.Core.List.{[], _∷_}
@@ -9,10 +9,10 @@ use lib.Bits.{bitOr, or-zero-r}
 use Rattle.masks.specs.Pick.{pick, pick-true, pick-false}
 use Rattle.masks.specs.Bits.{bitOf, maskOf, putBit}
 use Rattle.masks.specs.Laws.{own, or-by, put-with}
-use Rattle.rules.specs.declared.Answer.the-variants.{Stored as AnswerStored, Queued as AnswerQueued, HeldOff as AnswerHeldOff, Overrun as AnswerOverrun, Unmatched as AnswerUnmatched, BadFrame, Ignored as AnswerIgnored, Woke as AnswerWoke}
+use Rattle.rules.specs.declared.Answer.the-variants.{Stored, Queued, HeldOff, Overrun, Unmatched, BadFrame, Ignored, Woke}
 use Rattle.rules.specs.declared.Verdict.{Verdict}
 use Rattle.rules.specs.declared.Ruling.{Ruling}
-use Rattle.rules.specs.declared.Verdict.the-variants.{Say, Store, Send}
+use Rattle.rules.specs.declared.Verdict.the-variants.{Say, Store}
 use Rattle.rules.specs.declared.Fifo.{Fifo}
 use Rattle.rules.specs.declared.Control.{Control}
 use Rattle.rules.specs.Record.{withMode, withEvents, withFifo, withBuffers, withLast, withGisr, withIflg}
@@ -22,35 +22,40 @@ use Rattle.rules.specs.Kinds.{isLocked}
 use Rattle.rules.specs.Bus.{raiseGisr, woken, fifoTakes, withEntry, raiseLast}
 use Rattle.rules.specs.Plan.{store, say, plain}
 use Rattle.bus_steps.specs.declared.frames.Outcome.{Outcome}
-use Rattle.bus_steps.specs.declared.frames.Outcome.the-variants.{Ignored, Woke, Bad, HeldOff, Stored, Unmatched, Overrun, Queued}
 use Rattle.bus_steps.specs.declared.frames.Marks.{Marks}
 use Rattle.bus_steps.specs.Code.{rulingOf}
 
 -- ---- what becomes of a frame
 
-abbrev pub verdictFor : Outcome → Verdict
-verdictFor Ignored = Say AnswerIgnored
-verdictFor Woke = Say AnswerWoke
-verdictFor Bad = Say BadFrame
-verdictFor (HeldOff n) = Say (AnswerHeldOff n)
-verdictFor (Stored n) = Store n (AnswerStored n)
-verdictFor Unmatched = Say AnswerUnmatched
-verdictFor Overrun = Say AnswerOverrun
-verdictFor (Queued n) = Store n (AnswerQueued n)
+-- the verdict; does the last identifier rise, whose IFLG is set, which flags of $07 are, has the FIFO one more entry, does the module wake
+abbrev pub decided : Verdict → Bool → ℕ → ℕ → Bool → Bool → Outcome
+decided v raises iflg gisr queues wakes =
+    record { verdict = v; marks = record { raises = raises; iflg = iflg; gisr = gisr; queues = queues; wakes = wakes } }
 
--- marks of the last identifier and of flags of $07 alone
-abbrev pub plainMarks : Bool → ℕ → Marks
-plainMarks raises gisr = record { raises = raises; iflg = 0; gisr = gisr; queues = false; wakes = false }
+-- the eight outcomes
+abbrev pub ignored : Outcome
+ignored = decided (Say Ignored) false 0 0 false false
 
-abbrev pub marksOf : Outcome → Marks
-marksOf Ignored = plainMarks false 0
-marksOf Woke = record { raises = false; iflg = 0; gisr = WAKEIF; queues = false; wakes = true }
-marksOf Bad = plainMarks false ERRIF
-marksOf (HeldOff n) = plainMarks true 0
-marksOf (Stored n) = record { raises = true; iflg = maskOf (λ k. eqb k n); gisr = 0; queues = false; wakes = false }
-marksOf Unmatched = plainMarks true 0
-marksOf Overrun = plainMarks true OVRNIF
-marksOf (Queued n) = record { raises = true; iflg = 0; gisr = 0; queues = true; wakes = false }
+abbrev pub woke : Outcome
+woke = decided (Say Woke) false 0 WAKEIF false true
+
+abbrev pub bad : Outcome
+bad = decided (Say BadFrame) false 0 ERRIF false false
+
+abbrev pub heldOff : ℕ → Outcome
+heldOff n = decided (Say (HeldOff n)) true 0 0 false false
+
+abbrev pub stored : ℕ → Outcome
+stored n = decided (Store n (Stored n)) true (maskOf (λ k. eqb k n)) 0 false false
+
+abbrev pub unmatched : Outcome
+unmatched = decided (Say Unmatched) true 0 0 false false
+
+abbrev pub overrun : Outcome
+overrun = decided (Say Overrun) true 0 OVRNIF false false
+
+abbrev pub queued : ℕ → Outcome
+queued n = decided (Store n (Queued n)) true 0 0 true false
 
 -- ---- the control state with its marks
 
@@ -77,47 +82,47 @@ marked c m i = pick (m .wakes) (wake (base c m i)) (base c m i)
 
 -- the ruling on a frame with identifier i
 abbrev pub ruledBy : Control → ℕ → Outcome → Ruling
-ruledBy c i o = record { next = marked c (marksOf o) i; verdict = verdictFor o }
+ruledBy c i o = record { next = marked c (o .marks) i; verdict = o .verdict }
 
 -- ---- the rulings by outcome are the rules'
 
 module _ (c : Control) (i : ℕ) where
-  pub ignored-ruled : ruledBy c i Ignored ≡ rulingOf (plain c AnswerIgnored)
+  pub ignored-ruled : ruledBy c i ignored ≡ rulingOf (plain c Ignored)
   unfolding marked base risen entered pick
   ignored-ruled = simp (or-zero-r)
 
-  pub woke-ruled : ruledBy c i Woke ≡ rulingOf (plain (woken c) AnswerWoke)
+  pub woke-ruled : ruledBy c i woke ≡ rulingOf (plain (woken c) Woke)
   unfolding marked base risen entered pick woken
   woke-ruled = simp (or-zero-r)
 
-  pub bad-ruled : ruledBy c i Bad ≡ rulingOf (plain (raiseGisr c ERRIF) BadFrame)
+  pub bad-ruled : ruledBy c i bad ≡ rulingOf (plain (raiseGisr c ERRIF) BadFrame)
   unfolding marked base risen entered pick
   bad-ruled = simp (or-zero-r)
 
-  pub held-ruled : (n : ℕ) → ruledBy c i (HeldOff n) ≡ rulingOf (plain (raiseLast c i) (AnswerHeldOff n))
+  pub held-ruled : (n : ℕ) → ruledBy c i (heldOff n) ≡ rulingOf (plain (raiseLast c i) (HeldOff n))
   unfolding marked base risen entered pick raiseLast
   held-ruled n = simp (or-zero-r)
 
-  pub unmatched-ruled : ruledBy c i Unmatched ≡ rulingOf (plain (raiseLast c i) AnswerUnmatched)
+  pub unmatched-ruled : ruledBy c i unmatched ≡ rulingOf (plain (raiseLast c i) Unmatched)
   unfolding marked base risen entered pick raiseLast
   unmatched-ruled = simp (or-zero-r)
 
-  pub overrun-ruled : ruledBy c i Overrun ≡ rulingOf (plain (raiseGisr (raiseLast c i) OVRNIF) AnswerOverrun)
+  pub overrun-ruled : ruledBy c i overrun ≡ rulingOf (plain (raiseGisr (raiseLast c i) OVRNIF) Overrun)
   unfolding marked base risen entered pick raiseLast
   overrun-ruled = simp (or-zero-r)
 
-  pub stored-ruled : (n : ℕ) → c .buffers .iflg < 65536 → ruledBy c i (Stored n)
+  pub stored-ruled : (n : ℕ) → c .buffers .iflg < 65536 → ruledBy c i (stored n)
       ≡ rulingOf (record {
         control = withBuffers (raiseLast c i) (withIflg (c .buffers) (putBit (c .buffers .iflg) n true));
         moves = store n ∷ [];
-        reply = say (AnswerStored n);
+        reply = say (Stored n);
       })
   unfolding marked base risen entered pick raiseLast
   stored-ruled n h =
       simp (or-zero-r, or-by (c .buffers .iflg) (maskOf (λ k. eqb k n)) (bitOf (c .buffers .iflg)) (λ k. eqb k n) (own (c .buffers .iflg) h) refl ∙ put-with (c .buffers .iflg) n)
 
-  pub queued-ruled : (n : ℕ) → c .fifo .count < c .config .fsiz → ruledBy c i (Queued n)
-      ≡ rulingOf (record { control = withFifo (raiseLast c i) (withEntry c); moves = store n ∷ []; reply = say (AnswerQueued n) })
+  pub queued-ruled : (n : ℕ) → c .fifo .count < c .config .fsiz → ruledBy c i (queued n)
+      ≡ rulingOf (record { control = withFifo (raiseLast c i) (withEntry c); moves = store n ∷ []; reply = say (Queued n) })
   unfolding marked base risen entered raiseLast
   queued-ruled n h = simp (or-zero-r, pick-true, pick-false, lt-ltb (c .fifo .count) (c .config .fsiz) h)
 

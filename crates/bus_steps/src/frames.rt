@@ -1,11 +1,12 @@
-// Frames. What becomes of a frame is judged first, and what that marks in the control state is then written part by part: where each
-// outcome has a next state of its own, the compiler copies the whole state once more wherever two of them meet.
+// Frames. What becomes of a frame is decided first, as the verdict on it and its marks; the marks are then written into the control state
+// part by part. Where each outcome has a next state of its own, the compiler copies the whole state once more wherever two of them meet;
+// where the outcome is an enum, each match on it later is one more jump.
 ghost use mathlib.Core.Path.{_≡_};
 ghost use Prim.Native.Nat.{ℕ, max, _<_};
 ghost use Rattle.rules.specs.Rules.{wakes};
 ghost use Rattle.rules.specs.Bus.{toBuffer, fifoTakes, withEntry, toFifo, raiseLast, judged};
 ghost use Rattle.bus_steps.specs.Code.{rulingOf};
-ghost use Rattle.bus_steps.specs.Marks.{verdictFor, risen, entered, base, marked, marksOf, ruledBy};
+ghost use Rattle.bus_steps.specs.Marks.{decided, risen, entered, base, marked, ruledBy};
 use modes::wake;
 use rules::Answer;
 use rules::Control;
@@ -17,19 +18,7 @@ use rules::bits::WAKEIF;
 use status::kinds::is_locked;
 use status::kinds::place_after;
 
-// What becomes of a frame: the answers that it can have, with their buffers.
-pub(crate) enum Outcome {
-    Ignored,
-    Woke,
-    Bad,
-    HeldOff(u8),
-    Stored(u8),
-    Unmatched,
-    Overrun,
-    Queued(u8),
-}
-
-// What it marks: whether the last identifier rises to the frame's, whose IFLG is set, which flags of $07 are set,
+// What a frame marks: whether the last identifier rises to the frame's, whose IFLG is set, which flags of $07 are set,
 // whether the FIFO has one more entry, and whether the module wakes.
 struct Marks {
     raises: bool,
@@ -37,6 +26,41 @@ struct Marks {
     gisr: u8,
     queues: bool,
     wakes: bool,
+}
+
+// What becomes of a frame: the verdict on it, and what it marks.
+pub(crate) struct Outcome {
+    pub(crate) verdict: Verdict,
+    marks: Marks,
+}
+
+fn marking(raises: bool, iflg: u16, gisr: u8, queues: bool, wakes: bool) -> Marks
+    ensures { λ r. ⌜ r ≡ record { raises = raises; iflg = iflg; gisr = gisr; queues = queues; wakes = wakes } ⌝ }
+{
+    Marks {
+        raises,
+        iflg,
+        gisr,
+        queues,
+        wakes,
+    }
+}
+
+// An outcome, its marks one by one.
+fn decided(
+    verdict: Verdict,
+    raises: bool,
+    iflg: u16,
+    gisr: u8,
+    queues: bool,
+    wakes: bool,
+) -> Outcome
+    ensures { λ r. ⌜ r ≡ decided verdict raises iflg gisr queues wakes ⌝ }
+{
+    Outcome {
+        verdict: verdict,
+        marks: marking(raises, iflg, gisr, queues, wakes),
+    }
 }
 
 // The larger of two identifiers.
@@ -60,9 +84,16 @@ fn to_buffer(c: Control, n: u8) -> Outcome
     ensures { λ r. ⌜ ((i : ℕ) → ruledBy c i r ≡ rulingOf (toBuffer (raiseLast c i) n)) ⌝ }
 {
     if is_locked(c, n) {
-        return Outcome::HeldOff(n);
+        return decided(Verdict::Say(Answer::HeldOff(n)), true, 0, 0, false, false);
     }
-    Outcome::Stored(n)
+    decided(
+        Verdict::Store(n, Answer::Stored(n)),
+        true,
+        masks::one(n),
+        0,
+        false,
+        false,
+    )
 }
 
 // A frame with no dedicated buffer.
@@ -70,13 +101,20 @@ fn to_fifo(c: Control, i: u8) -> Outcome
     ensures { λ r. ⌜ ruledBy c i r ≡ rulingOf (toFifo (raiseLast c i) i) ⌝ }
 {
     if !fifo_takes(c, i) {
-        return Outcome::Unmatched;
+        return decided(Verdict::Say(Answer::Unmatched), true, 0, 0, false, false);
     }
     if c.config.fsiz <= c.fifo.count {
-        return Outcome::Overrun;
+        return decided(Verdict::Say(Answer::Overrun), true, 0, OVRNIF, false, false);
     }
     let n = c.fifo.next;
-    Outcome::Queued(n)
+    decided(
+        Verdict::Store(n, Answer::Queued(n)),
+        true,
+        0,
+        0,
+        true,
+        false,
+    )
 }
 
 // A frame that is awaited or not.
@@ -84,10 +122,17 @@ fn judged(c: Control, good: bool, i: u8, n: u8) -> Outcome
     ensures { λ r. ⌜ ruledBy c i r ≡ rulingOf (judged c good i n) ⌝ }
 {
     if !c.mode.synced {
-        return Outcome::Ignored;
+        return decided(Verdict::Say(Answer::Ignored), false, 0, 0, false, false);
     }
     if !good || i == 0 {
-        return Outcome::Bad;
+        return decided(
+            Verdict::Say(Answer::BadFrame),
+            false,
+            0,
+            ERRIF,
+            false,
+            false,
+        );
     }
     if n < 16 {
         return to_buffer(c, n);
@@ -100,56 +145,12 @@ pub(crate) fn outcome_of(c: Control, good: bool, i: u8, n: u8) -> Outcome
     ensures { λ r. ⌜ ruledBy c i r ≡ rulingOf (wakes c (judged c good i n)) ⌝ }
 {
     if c.mode.init {
-        return Outcome::Ignored;
+        return decided(Verdict::Say(Answer::Ignored), false, 0, 0, false, false);
     }
     if c.mode.slpak {
-        return Outcome::Woke;
+        return decided(Verdict::Say(Answer::Woke), false, 0, WAKEIF, false, true);
     }
     judged(c, good, i, n)
-}
-
-// The verdict that an outcome stands for.
-pub(crate) fn verdict_for(o: Outcome) -> Verdict
-    ensures { λ r. ⌜ r ≡ verdictFor o ⌝ }
-{
-    match o {
-        Outcome::Ignored => Verdict::Say(Answer::Ignored),
-        Outcome::Woke => Verdict::Say(Answer::Woke),
-        Outcome::Bad => Verdict::Say(Answer::BadFrame),
-        Outcome::HeldOff(n) => Verdict::Say(Answer::HeldOff(n)),
-        Outcome::Stored(n) => Verdict::Store(n, Answer::Stored(n)),
-        Outcome::Unmatched => Verdict::Say(Answer::Unmatched),
-        Outcome::Overrun => Verdict::Say(Answer::Overrun),
-        Outcome::Queued(n) => Verdict::Store(n, Answer::Queued(n)),
-    }
-}
-
-fn marking(raises: bool, iflg: u16, gisr: u8, queues: bool, wakes: bool) -> Marks
-    ensures { λ r. ⌜ r ≡ record { raises = raises; iflg = iflg; gisr = gisr; queues = queues; wakes = wakes } ⌝ }
-{
-    Marks {
-        raises,
-        iflg,
-        gisr,
-        queues,
-        wakes,
-    }
-}
-
-// What an outcome marks.
-fn marks_of(o: Outcome) -> Marks
-    ensures { λ r. ⌜ r ≡ marksOf o ⌝ }
-{
-    match o {
-        Outcome::Ignored => marking(false, 0, 0, false, false),
-        Outcome::Woke => marking(false, 0, WAKEIF, false, true),
-        Outcome::Bad => marking(false, 0, ERRIF, false, false),
-        Outcome::HeldOff(_) => marking(true, 0, 0, false, false),
-        Outcome::Stored(n) => marking(true, masks::one(n), 0, false, false),
-        Outcome::Unmatched => marking(true, 0, 0, false, false),
-        Outcome::Overrun => marking(true, 0, OVRNIF, false, false),
-        Outcome::Queued(_) => marking(true, 0, 0, true, false),
-    }
 }
 
 // The last identifier after a frame with identifier i.
@@ -200,9 +201,9 @@ fn with_marks(c: Control, m: Marks, i: u8) -> Control
 
 // The control state after a frame with identifier i.
 pub(crate) fn marked(c: Control, o: Outcome, i: u8) -> Control
-    ensures { λ r. ⌜ r ≡ marked c (marksOf o) i ⌝ }
+    ensures { λ r. ⌜ r ≡ marked c (o .marks) i ⌝ }
 {
-    let m = marks_of(o);
+    let m = o.marks;
     let next = with_marks(c, m, i);
     if m.wakes {
         return wake(next);

@@ -14,7 +14,6 @@ use crate::events::faulted;
 use crate::events::woken;
 use crate::frames::marked;
 use crate::frames::outcome_of;
-use crate::frames::verdict_for;
 use crate::slots::slot_for;
 use crate::syncs::due_kind;
 use crate::syncs::synced;
@@ -41,9 +40,10 @@ pub fn on_frame(c: Control, good: bool, i: u8, n: u8) -> Ruling
     ensures { λ r. ⌜ r ≡ rulingOf (wakes c (judged c good i n)) ⌝ }
 {
     let o = outcome_of(c, good, i, n);
+    let verdict = o.verdict;
     Ruling {
         next: marked(c, o, i),
-        verdict: verdict_for(o),
+        verdict: verdict,
     }
 }
 

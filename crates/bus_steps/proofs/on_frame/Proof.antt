@@ -9,12 +9,8 @@ outcome-of-requires c κs = search needs
 marked-requires : tie.Need-marked-requires
 marked-requires c κs = search needs
 
-verdict-for-requires : tie.Need-verdict-for-requires
-verdict-for-requires c κs = search needs
-
 returns : tie.Need-returns
-returns c = simp (c .verdict-for .ensures, c .before .marked .ensures) (c .before .before .outcome-of .ensures)
+returns c = simp (c .marked .ensures) (c .before .outcome-of .ensures)
 
 pub on-frame-spec : {M : Type 1} → statement M
-on-frame-spec =
-    tie.close (tie.spec outcome-of-requires marked-requires verdict-for-requires returns)
+on-frame-spec = tie.close (tie.spec outcome-of-requires marked-requires returns)

@@ -1,28 +1,37 @@
 use mathlib.Core.Logic.{⊎-elim}
-use mathlib.Core.Path.{_∙_}
+use mathlib.Core.Path.{ap, _∙_}
 use borrow.Author.Tests.{lt-ltb, le-ltb}
 use Rattle.masks.specs.Pick.{pick-true, pick-false}
 use Rattle.rules.specs.Bus.{found, judged}
-use Rattle.bus_steps.specs.Marks.{ignored-ruled, bad-ruled}
+use Rattle.bus_steps.specs.Marks.{ignored, bad, ruledBy, ignored-ruled, bad-ruled}
 use borrow.Author.Needs.{needs}
 use Rattle.bus_steps.proofs.frames.judged.Statement.{statement}
 use Rattle.bus_steps.proofs.frames.judged.Tie as tie
 
+decided-requires : tie.Need-decided-requires
+decided-requires c κs = search needs
+
 returns : tie.Need-returns
 unfolding judged
 returns c =
-    let a = c .before .before .args in
-    ignored-ruled (a .c) (a .i) ∙ simp (pick-true, c .if1 .taken)
+    let a = c .before .before .before .args in
+    ap (ruledBy (a .c) (a .i)) {y = ignored} (c .decided .ensures)
+    ∙ ignored-ruled (a .c) (a .i)
+    ∙ simp (pick-true, c .before .if1 .taken)
+
+decided-requires-2 : tie.Need-decided-requires-2
+decided-requires-2 c κs = search needs
 
 returns-2 : tie.Need-returns-2
 unfolding judged
 returns-2 c =
-    let a = c .before .before .before .args in
-    bad-ruled (a .c) (a .i)
+    let a = c .before .before .before .before .args in
+    ap (ruledBy (a .c) (a .i)) {y = bad} (c .decided2 .ensures)
+    ∙ bad-ruled (a .c) (a .i)
     ∙ ⊎-elim
-    (λ w. simp (pick-true, pick-false, w .taken, c .before .if1 .left))
-    (λ w. simp (pick-true, pick-false, w .0 .left, w .1 .taken, c .before .if1 .left))
-    (c .if2 .came)
+    (λ w. simp (pick-true, pick-false, w .taken, c .before .before .if1 .left))
+    (λ w. simp (pick-true, pick-false, w .0 .left, w .1 .taken, c .before .before .if1 .left))
+    (c .before .if2 .came)
 
 to-buffer-requires : tie.Need-to-buffer-requires
 to-buffer-requires c κs = search needs
@@ -45,4 +54,13 @@ returns-4 c =
 
 pub judged-spec : {M : Type 1} → statement M
 judged-spec =
-    tie.close (tie.spec returns returns-2 to-buffer-requires returns-3 to-fifo-requires returns-4)
+    tie.close
+    (tie.spec
+    decided-requires
+    returns
+    decided-requires-2
+    returns-2
+    to-buffer-requires
+    returns-3
+    to-fifo-requires
+    returns-4)

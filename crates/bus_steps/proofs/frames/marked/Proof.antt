@@ -4,9 +4,6 @@ use borrow.Author.Needs.{needs}
 use Rattle.bus_steps.proofs.frames.marked.Statement.{statement}
 use Rattle.bus_steps.proofs.frames.marked.Tie as tie
 
-marks-of-requires : tie.Need-marks-of-requires
-marks-of-requires c κs = search needs
-
 with-marks-requires : tie.Need-with-marks-requires
 with-marks-requires c κs = search needs
 
@@ -15,12 +12,11 @@ wake-requires c κs = search needs
 
 returns : tie.Need-returns
 unfolding marked
-returns c = simp (pick-true, ← (c .wake .ensures), c .before .if1 .taken, ← (c .before .before .with-marks .ensures), ← (c .before .before .before .marks-of .ensures))
+returns c = simp (pick-true, ← (c .wake .ensures), c .before .if1 .taken, ← (c .before .before .with-marks .ensures))
 
 returns-2 : tie.Need-returns-2
 unfolding marked
-returns-2 c = simp (pick-false, c .if1 .left, ← (c .before .with-marks .ensures), ← (c .before .before .marks-of .ensures))
+returns-2 c = simp (pick-false, c .if1 .left, ← (c .before .with-marks .ensures))
 
 pub marked-spec : {M : Type 1} → statement M
-marked-spec =
-    tie.close (tie.spec marks-of-requires with-marks-requires wake-requires returns returns-2)
+marked-spec = tie.close (tie.spec with-marks-requires wake-requires returns returns-2)

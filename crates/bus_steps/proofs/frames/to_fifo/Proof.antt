@@ -1,9 +1,8 @@
-use mathlib.Core.Path.{_∙_}
-use native.Mathlib.Omega.{arith}
+use mathlib.Core.Path.{ap, _∙_}
 use borrow.Author.Tests.{le-leb, lt-leb, not-true, not-false}
 use Rattle.masks.specs.Pick.{pick-true, pick-false}
 use Rattle.rules.specs.Bus.{toFifo, raiseLast}
-use Rattle.bus_steps.specs.Marks.{unmatched-ruled, overrun-ruled, queued-ruled, takes-raised}
+use Rattle.bus_steps.specs.Marks.{unmatched, overrun, queued, ruledBy, unmatched-ruled, overrun-ruled, queued-ruled, takes-raised}
 use borrow.Author.Needs.{needs}
 use Rattle.bus_steps.proofs.frames.to_fifo.Statement.{statement}
 use Rattle.bus_steps.proofs.frames.to_fifo.Tie as tie
@@ -11,28 +10,50 @@ use Rattle.bus_steps.proofs.frames.to_fifo.Tie as tie
 fifo-takes-requires : tie.Need-fifo-takes-requires
 fifo-takes-requires c κs = search needs
 
+decided-requires : tie.Need-decided-requires
+decided-requires c κs = search needs
+
 returns : tie.Need-returns
 unfolding toFifo
 returns c =
-    let a = c .before .before .args in
-    unmatched-ruled (a .c) (a .i)
-    ∙ simp (pick-false, takes-raised (a .c) (a .i), ← (c .before .fifo-takes .ensures), not-true (c .before .fifo-takes .result) (c .if1 .taken))
+    let a = c .before .before .before .args in
+    let takes = c .before .before .fifo-takes in
+    ap (ruledBy (a .c) (a .i)) {y = unmatched} (c .decided .ensures)
+    ∙ unmatched-ruled (a .c) (a .i)
+    ∙ simp (pick-false, takes-raised (a .c) (a .i), ← (takes .ensures), not-true (takes .result) (c .before .if1 .taken))
+
+decided-requires-2 : tie.Need-decided-requires-2
+decided-requires-2 c κs = search needs
 
 returns-2 : tie.Need-returns-2
 unfolding toFifo raiseLast
 returns-2 c =
-    let a = c .before .before .before .before .args in
-    let takes = c .before .before .before .fifo-takes in
-    overrun-ruled (a .c) (a .i)
-    ∙ simp (pick-true, takes-raised (a .c) (a .i), ← (takes .ensures), not-false (takes .result) (c .before .before .if1 .left), le-leb _ _ (c .if2 .taken))
+    let a = c .before .before .before .before .before .args in
+    let takes = c .before .before .before .before .fifo-takes in
+    ap (ruledBy (a .c) (a .i)) {y = overrun} (c .decided2 .ensures)
+    ∙ overrun-ruled (a .c) (a .i)
+    ∙ simp (pick-true, takes-raised (a .c) (a .i), ← (takes .ensures), not-false (takes .result) (c .before .before .before .if1 .left), le-leb _ _ (c .before .if2 .taken))
+
+decided-requires-3 : tie.Need-decided-requires-3
+decided-requires-3 c κs = search needs
 
 returns-3 : tie.Need-returns-3
 unfolding toFifo raiseLast
 returns-3 c =
-    let a = c .before .before .before .before .args in
-    let takes = c .before .before .before .fifo-takes in
-    queued-ruled (a .c) (a .i) (a .c .fifo .next) (c .if2 .left)
-    ∙ simp (pick-true, pick-false, takes-raised (a .c) (a .i), ← (takes .ensures), not-false (takes .result) (c .before .before .if1 .left), lt-leb _ _ (c .if2 .left))
+    let a = c .before .before .before .before .before .args in
+    let takes = c .before .before .before .before .fifo-takes in
+    ap (ruledBy (a .c) (a .i)) {y = queued (a .c .fifo .next)} (c .decided3 .ensures)
+    ∙ queued-ruled (a .c) (a .i) (a .c .fifo .next) (c .before .if2 .left)
+    ∙ simp (pick-true, pick-false, takes-raised (a .c) (a .i), ← (takes .ensures), not-false (takes .result) (c .before .before .before .if1 .left), lt-leb _ _ (c .before .if2 .left))
 
 pub to-fifo-spec : {M : Type 1} → statement M
-to-fifo-spec = tie.close (tie.spec fifo-takes-requires returns returns-2 returns-3)
+to-fifo-spec =
+    tie.close
+    (tie.spec
+    fifo-takes-requires
+    decided-requires
+    returns
+    decided-requires-2
+    returns-2
+    decided-requires-3
+    returns-3)
