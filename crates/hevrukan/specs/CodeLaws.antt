@@ -1,28 +1,77 @@
 -- The exported functions' ends: what their callees say gives what the interface says.
 use mathlib.Core.Path.{_≡_, refl, sym, ap, ap₂, _∙_}
-use Prim.Native.Nat.{ℕ}
+use Prim.Native.Nat.{ℕ, zero, suc, _%_, _<_}
 use native.Mathlib.Omega.{arith}
 use mathlib.Core.Bool.{Bool, true, false, not}
 use mathlib.Core.List.{List}
-use borrow.Author.Tests.{eq-eqb, ne-eqb}
-use lib.Dec.{T as Holds, eqb, eqb→eq}
+use borrow.Author.Tests.{ltb-true, le-ltb, eq-eqb, ne-eqb}
+use lib.Dec.{T as Holds, eqb, ltb, eqb→eq}
 use mir.Facts.{eqb-no}
-use Rattle.masks.specs.Pick.{pick-true, pick-false, by-test}
+use Rattle.masks.specs.Pick.{pick, pick-true, pick-false, by-test}
 use Rattle.rules.specs.declared.Answer.{Answer}
 use Rattle.rules.specs.Flags.{linesOf}
 use Rattle.controller.specs.declared.Controller.{Controller}
 use Rattle.controller.specs.declared.Call.{Call}
-use Rattle.controller.specs.declared.Call.the-variants.{Reset}
+use Rattle.controller.specs.declared.Call.the-variants.{Write, Sync, Slot, Frame, Fault}
 use Rattle.controller.specs.Carry.{resetState}
 use Rattle.controller.specs.Session.{stepOf}
 use Rattle.controller.specs.Code.{doneOf, stepFor, roomFor}
-use Rattle.hevrukan.specs.declared.Asked.{Asked}
-use Rattle.hevrukan.specs.declared.Asked.the-variants.{Step, Unknown}
-use Rattle.hevrukan.specs.declared.Request.{Request}
-use Rattle.hevrukan.specs.Interface.{recordSize, wrongSize, numberOf, callOf, Effect, unchanged, effectOf, stepEffect, resetNext, resetAnswer, linesAnswer}
-use Rattle.hevrukan.specs.Code.{requestFor, requestOf}
+use Rattle.hevrukan.specs.Interface.{recordSize, unknown, wrongSize, numberOf, Asked, Step, Unknown, addressOf, writeOf, syncOf, slotOf, frameOf, faultOf, callOf, Effect, unchanged, effectOf, stepEffect, resetNext, resetAnswer, linesAnswer}
+use Rattle.hevrukan.specs.Code.{knownOf, judgedOf, syncKindOf, faultKindOf, meantOf}
 
--- ---- a step's end, for a request q; how a test came out is a `Holds`
+-- ---- numbers that are known stand for the call that is meant, and others for none
+
+abbrev If : Bool → Call → Asked
+If t call = pick t (Step call) Unknown
+
+low : (n : ℕ) → ltb n 256 ≡ true → n ≡ n % 256
+low n e = let h : n < 256 = ltb-true n 256 e in omega arith
+
+write-if : (first second : ℕ) → writeOf first second ≡ If (ltb second 256) (Write (addressOf first) (second % 256))
+unfolding writeOf
+write-if first second =
+    by-test (ltb second 256) (λ e. ap (λ (v : ℕ). If (ltb second 256) (Write (addressOf first) v)) (low second e))
+    (λ e. pick-false _ _ _ e ∙ sym (pick-false _ _ _ e))
+
+sync-if : (first : ℕ) → syncOf first ≡ If (ltb first 2) (Sync (syncKindOf first))
+unfolding syncOf syncKindOf pick
+sync-if zero = refl
+sync-if (suc zero) = refl
+sync-if (suc (suc n)) = sym (pick-false _ _ _ (le-ltb (suc (suc n)) 2 (omega arith)))
+
+slot-if : (first : ℕ) → slotOf first ≡ If (ltb first 256) (Slot (first % 256))
+unfolding slotOf
+slot-if first =
+    by-test (ltb first 256) (λ e. ap (λ (n : ℕ). If (ltb first 256) (Slot n)) (low first e)) (λ e. pick-false _ _ _ e ∙ sym (pick-false _ _ _ e))
+
+frame-if : (first : ℕ) → frameOf first ≡ If (ltb first 2) (Frame (not (eqb first 0)))
+unfolding frameOf pick
+frame-if zero = refl
+frame-if (suc zero) = refl
+frame-if (suc (suc n)) = sym (pick-false _ _ _ (le-ltb (suc (suc n)) 2 (omega arith)))
+
+fault-if : (first : ℕ) → faultOf first ≡ If (ltb first 4) (Fault (faultKindOf first))
+unfolding faultOf faultKindOf pick
+fault-if zero = refl
+fault-if (suc zero) = refl
+fault-if (suc (suc zero)) = refl
+fault-if (suc (suc (suc zero))) = refl
+fault-if (suc (suc (suc (suc n)))) = sym (pick-false _ _ _ (le-ltb (suc (suc (suc (suc n)))) 4 (omega arith)))
+
+call-if : (kind first second : ℕ) → callOf kind first second ≡ If (knownOf kind first second) (meantOf kind first second)
+unfolding callOf knownOf meantOf pick
+call-if zero first second = refl
+call-if (suc zero) first second = refl
+call-if (suc (suc zero)) first second = write-if first second
+call-if (suc (suc (suc zero))) first second = sync-if first
+call-if (suc (suc (suc (suc zero)))) first second = refl
+call-if (suc (suc (suc (suc (suc zero))))) first second = slot-if first
+call-if (suc (suc (suc (suc (suc (suc zero)))))) first second = frame-if first
+call-if (suc (suc (suc (suc (suc (suc (suc zero))))))) first second = fault-if first
+call-if (suc (suc (suc (suc (suc (suc (suc (suc zero)))))))) first second = refl
+call-if (suc (suc (suc (suc (suc (suc (suc (suc (suc n))))))))) first second = refl
+
+-- ---- a step's end, for the number n that the numbers are judged as; how a test came out is a `Holds`
 
 abbrev leaves : Controller → ℕ → List ℕ → Effect
 leaves c n room = record { next = c; answer = n; room = room }
@@ -34,66 +83,63 @@ not-not : (t : Bool) → Holds (not (not t)) → Holds t
 not-not true h = h
 not-not false h = h
 
-module _ (c : Controller) (size kind first second : ℕ) (frame room : List ℕ) where
-  abbrev request : Request
-  request = requestOf size kind first second
+module _ (size kind first second : ℕ) where
+  abbrev judgement : ℕ
+  judgement = judgedOf size kind first second
 
+  right-known : eqb size recordSize ≡ true → knownOf kind first second ≡ true → judgement ≡ 0
+  unfolding judgedOf
+  right-known e k = pick-true _ _ _ e ∙ pick-true _ _ _ k
+
+  right-unknown : eqb size recordSize ≡ true → knownOf kind first second ≡ false → judgement ≡ unknown
+  unfolding judgedOf
+  right-unknown e k = pick-true _ _ _ e ∙ pick-false _ _ _ k
+
+  other-size : eqb size recordSize ≡ false → judgement ≡ wrongSize
+  unfolding judgedOf
+  other-size e = pick-false _ _ _ e
+
+  no-zero : {G : Type 0} {n : ℕ} → judgement ≡ suc n → judgement ≡ 0 → G
+  no-zero e z = absurd (omega (arith, sym e ∙ z))
+
+  judged-size : judgement ≡ 0 → eqb size recordSize ≡ true
+  judged-size z = by-test (eqb size recordSize) (λ e. e) (λ e. no-zero (other-size e) z)
+
+  -- what is judged as 0 stands for the call that is meant
+  pub judged-call : judgement ≡ 0 → callOf kind first second ≡ Step (meantOf kind first second)
+  judged-call z =
+      by-test (knownOf kind first second) (λ k. call-if kind first second ∙ pick-true _ _ _ k) (λ k. no-zero (right-unknown (judged-size z) k) z)
+
+module _ (c : Controller) (size kind first second : ℕ) (frame room : List ℕ) where
   abbrev effect : Effect
   effect = stepEffect c size kind first second frame room
 
-  known-call : (a : Asked) → requestFor a .answer ≡ 0 → effectOf c a frame room ≡ effectOf c (Step (requestFor a .call)) frame room
-  known-call (Step call) e = refl
-  known-call Unknown e = absurd (omega (arith, e))
-
-  no-call : (a : Asked) → (requestFor a .answer ≡ 0 → ⊥) → effectOf c a frame room ≡ unchanged c room (requestFor a .answer)
-  unfolding effectOf
-  no-call (Step call) n = absurd (n refl)
-  no-call Unknown n = refl
-
-  right-size : eqb size recordSize ≡ true → request ≡ requestFor (callOf kind first second)
-  unfolding requestOf
-  right-size e = pick-true _ _ _ e
-
-  other-size : eqb size recordSize ≡ false → request ≡ record { call = Reset; answer = wrongSize }
-  unfolding requestOf
-  other-size e = pick-false _ _ _ e
-
-  called : request .answer ≡ 0 → effect ≡ effectOf c (Step (request .call)) frame room
-  unfolding stepEffect
-  called z =
+  -- a number that is not 0 is the answer, and nothing is changed
+  pub unmade : (n : ℕ) → n ≡ judgedOf size kind first second → Holds (not (eqb n 0)) → effect ≡ unchanged c room n
+  unfolding stepEffect effectOf
+  unmade n e h =
       by-test (eqb size recordSize)
-      (λ e.
-      let p = right-size e in
-      pick-true _ _ _ e ∙ known-call (callOf kind first second) (ap (λ (q : Request). q .answer) (sym p) ∙ z)
-      ∙ ap (λ (q : Request). effectOf c (Step (q .call)) frame room) (sym p))
-      (λ e.
-      let z′ : wrongSize ≡ 0 = ap (λ (q : Request). q .answer) (sym (other-size e)) ∙ z in
-      absurd (omega (arith, z′)))
+      (λ s. by-test (knownOf kind first second) (λ k. absurd (eqb-no h (e ∙ right-known size kind first second s k)))
+      (λ k. pick-true _ _ _ s ∙ ap (λ (a : Asked). effectOf c a frame room) (call-if kind first second ∙ pick-false _ _ _ k)
+      ∙ ap (unchanged c room) (sym (e ∙ right-unknown size kind first second s k))))
+      (λ s. pick-false _ _ _ s ∙ ap (unchanged c room) (sym (e ∙ other-size size kind first second s)))
 
-  uncalled : (request .answer ≡ 0 → ⊥) → effect ≡ unchanged c room (request .answer)
+  -- at 0 it is the step of the call that is meant
+  abbrev pub Makes : Call → Type 0
+  Makes call = effect ≡ effectOf c (Step call) frame room
+
+  pub called : (n : ℕ) (call : Call) → n ≡ judgedOf size kind first second → Holds (not (not (eqb n 0))) → call ≡ meantOf kind first second → Makes call
   unfolding stepEffect
-  uncalled n =
-      by-test (eqb size recordSize)
-      (λ e.
-      let p = right-size e in
-      pick-true _ _ _ e ∙ no-call (callOf kind first second) (λ z. n (ap (λ (q : Request). q .answer) p ∙ z))
-      ∙ ap (λ (q : Request). unchanged c room (q .answer)) (sym p))
-      (λ e. pick-false _ _ _ e ∙ ap (λ (q : Request). unchanged c room (q .answer)) (sym (other-size e)))
+  called n call e h m =
+      let z : judgedOf size kind first second ≡ 0 = sym e ∙ eqb→eq n 0 (not-not (eqb n 0) h) in
+      pick-true _ _ _ (judged-size size kind first second z)
+      ∙ ap (λ (a : Asked). effectOf c a frame room) (judged-call size kind first second z ∙ ap Step (sym m))
 
-  -- a request with an answer of its own changes nothing
-  pub unmade : (q : Request) → q ≡ request → Holds (not (eqb (q .answer) 0)) → effect ≡ unchanged c room (q .answer)
-  unmade q e h =
-      uncalled (λ z. eqb-no h (ap (λ (p : Request). p .answer) e ∙ z)) ∙ ap (λ (p : Request). unchanged c room (p .answer)) (sym e)
-
-  -- any other is the step of its call
-  pub made : (q : Request) (call : Call) {next : Controller} {a : Answer} {zs : List ℕ} {m : ℕ} → q ≡ request → Holds (not (not (eqb (q .answer) 0))) → q .call ≡ call →
+  pub made : (call : Call) {next : Controller} {a : Answer} {zs : List ℕ} {m : ℕ} → Makes call →
       (next ≡ doneOf (stepOf c (stepFor call frame room)) .next) × (a ≡ doneOf (stepOf c (stepFor call frame room)) .answer) × (zs ≡ roomFor c call room) →
       m ≡ numberOf a → effect ≡ record { next = next; answer = m; room = zs }
   unfolding effectOf
-  made q call e h same said n =
-      let z : q .answer ≡ 0 = eqb→eq (q .answer) 0 (not-not (eqb (q .answer) 0) h) in
-      called (ap (λ (p : Request). p .answer) (sym e) ∙ z) ∙ ap (λ (k : Call). effectOf c (Step k) frame room) (ap (λ (p : Request). p .call) (sym e) ∙ same)
-      ∙ sym (leaves-same (said .0) (n ∙ ap numberOf (said .1)) (said .2))
+  made call e said n = e ∙ sym (leaves-same (said .0) (n ∙ ap numberOf (said .1)) (said .2))
 
 -- ---- the ends of `hevrukan_reset` and `hevrukan_lines`
 

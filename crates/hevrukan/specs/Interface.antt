@@ -14,12 +14,11 @@ use Rattle.rules.specs.declared.Answer.the-variants.{Ok, Value, Stored, Queued,
 use Rattle.rules.specs.Answers.{Word, ok, read, stored, queued, heldoff, heldback, sent, pulse, refused, overrun, unmatched, badframe, ignored, woke, notsent, wordOf}
 use Rattle.rules.specs.Flags.{linesOf}
 use Rattle.controller.specs.declared.Controller.{Controller}
+use Rattle.controller.specs.declared.Call.{Call}
 use Rattle.controller.specs.declared.Call.the-variants.{Reset, Read, Write, Sync, SyncDue, Slot, Frame, Fault, Timeout}
 use Rattle.controller.specs.Carry.{resetState}
 use Rattle.controller.specs.Session.{stepOf}
 use Rattle.controller.specs.Code.{stepFor, roomFor}
-use Rattle.hevrukan.specs.declared.Asked.{Asked}
-use Rattle.hevrukan.specs.declared.Asked.the-variants.{Step, Unknown}
 
 -- the bytes of a record
 abbrev pub recordSize : ℕ
@@ -80,6 +79,11 @@ abbrev pub wrongSize : ℕ
 wrongSize = 256 * 65
 
 -- ---- calls
+
+-- what a kind and its two numbers stand for
+pub data Asked : Type 0 where
+  Step : Call → Asked
+  Unknown : Asked
 
 -- an address above 255 is above $5F, as 255 is
 unfoldable pub addressOf : ℕ → ℕ

@@ -1,11 +1,11 @@
-// The call that a kind and its two numbers stand for.
+// Whether a kind and its two numbers stand for a call, and that call. They are judged first and the call is made of them after, so
+// that the compiler can make one jump of both.
 ghost use mathlib.Core.Path.{_≡_};
 ghost use mathlib.Core.List.{[]};
+ghost use Prim.Native.Nat.{_%_};
 ghost use Rattle.controller.specs.Code.{bytesIn};
-ghost use Rattle.hevrukan.specs.Interface.{addressOf, writeOf, syncOf, slotOf, frameOf, faultOf, callOf};
-ghost use Rattle.hevrukan.specs.Code.{requestOf};
-use crate::Asked;
-use crate::Request;
+ghost use Rattle.hevrukan.specs.Interface.{addressOf};
+ghost use Rattle.hevrukan.specs.Code.{knownOf, judgedOf, syncKindOf, faultKindOf, meantOf};
 use crate::SIZE;
 use crate::UNKNOWN;
 use crate::WRONG_SIZE;
@@ -14,6 +14,38 @@ use controller::FrameBytes;
 use rules::Fault;
 use rules::SyncKind;
 
+// Whether a kind and its numbers stand for a call. Numbers that the kind doesn't use are not looked at.
+fn known(kind: u32, first: u32, second: u32) -> bool
+    ensures { λ r. ⌜ r ≡ knownOf kind first second ⌝ }
+{
+    match kind {
+        0 => true,
+        1 => true,
+        2 => second < 256,
+        3 => first < 2,
+        4 => true,
+        5 => first < 256,
+        6 => first < 2,
+        7 => first < 4,
+        8 => true,
+        _ => false,
+    }
+}
+
+// The same behind the size: 0, or the answer where there is no call.
+pub fn judged(size: usize, kind: u32, first: u32, second: u32) -> u32
+    ensures { λ r. ⌜ r ≡ judgedOf size kind first second ⌝ }
+{
+    if size != SIZE {
+        return WRONG_SIZE;
+    }
+    if known(kind, first, second) {
+        0
+    } else {
+        UNKNOWN
+    }
+}
+
 // An address above 255 is refused as 255 is.
 fn address(first: u32) -> u8
     ensures { λ r. ⌜ r ≡ addressOf first ⌝ }
@@ -21,91 +53,48 @@ fn address(first: u32) -> u8
     if first < 256 { first as u8 } else { 255 }
 }
 
-fn write_call(first: u32, second: u32) -> Asked
-    ensures { λ r. ⌜ r ≡ writeOf first second ⌝ }
+// The low byte: a cast by itself may lose nothing.
+fn low_byte(n: u32) -> u8
+    ensures { λ r. ⌜ r ≡ n % 256 ⌝ }
 {
-    if second < 256 {
-        return Asked::Step(Call::Write(address(first), second as u8));
-    }
-    Asked::Unknown
+    (n % 256) as u8
 }
 
-fn sync_call(first: u32) -> Asked
-    ensures { λ r. ⌜ r ≡ syncOf first ⌝ }
+fn sync_kind(first: u32) -> SyncKind
+    ensures { λ r. ⌜ r ≡ syncKindOf first ⌝ }
 {
-    match first {
-        0 => Asked::Step(Call::Sync(SyncKind::Normal)),
-        1 => Asked::Step(Call::Sync(SyncKind::Alarm)),
-        _ => Asked::Unknown,
+    if first == 0 {
+        SyncKind::Normal
+    } else {
+        SyncKind::Alarm
     }
 }
 
-fn slot_call(first: u32) -> Asked
-    ensures { λ r. ⌜ r ≡ slotOf first ⌝ }
-{
-    if first < 256 {
-        return Asked::Step(Call::Slot(first as u8));
-    }
-    Asked::Unknown
-}
-
-fn frame_call(first: u32) -> Asked
-    ensures { λ r. ⌜ r ≡ frameOf first ⌝ }
+fn fault_kind(first: u32) -> Fault
+    ensures { λ r. ⌜ r ≡ faultKindOf first ⌝ }
 {
     match first {
-        0 => Asked::Step(Call::Frame(false)),
-        1 => Asked::Step(Call::Frame(true)),
-        _ => Asked::Unknown,
+        0 => Fault::Early,
+        1 => Fault::Lost,
+        2 => Fault::Illegal,
+        _ => Fault::Mismatch,
     }
 }
 
-fn fault_call(first: u32) -> Asked
-    ensures { λ r. ⌜ r ≡ faultOf first ⌝ }
-{
-    match first {
-        0 => Asked::Step(Call::Fault(Fault::Early)),
-        1 => Asked::Step(Call::Fault(Fault::Lost)),
-        2 => Asked::Step(Call::Fault(Fault::Illegal)),
-        3 => Asked::Step(Call::Fault(Fault::Mismatch)),
-        _ => Asked::Unknown,
-    }
-}
-
-// The call of a kind. Numbers that the kind doesn't use are not looked at.
-fn call(kind: u32, first: u32, second: u32) -> Asked
-    ensures { λ r. ⌜ r ≡ callOf kind first second ⌝ }
+// The call of a kind. Nothing is judged again, so numbers that stand for no call have one here too.
+pub fn meant(kind: u32, first: u32, second: u32) -> Call
+    ensures { λ r. ⌜ r ≡ meantOf kind first second ⌝ }
 {
     match kind {
-        0 => Asked::Step(Call::Reset),
-        1 => Asked::Step(Call::Read(address(first))),
-        2 => write_call(first, second),
-        3 => sync_call(first),
-        4 => Asked::Step(Call::SyncDue),
-        5 => slot_call(first),
-        6 => frame_call(first),
-        7 => fault_call(first),
-        8 => Asked::Step(Call::Timeout),
-        _ => Asked::Unknown,
-    }
-}
-
-// The same behind the size.
-pub fn requested(size: usize, kind: u32, first: u32, second: u32) -> Request
-    ensures { λ r. ⌜ r ≡ requestOf size kind first second ⌝ }
-{
-    if size != SIZE {
-        return Request {
-            call: Call::Reset,
-            answer: WRONG_SIZE,
-        };
-    }
-    let asked = call(kind, first, second);
-    match asked {
-        Asked::Step(call) => Request { call, answer: 0 },
-        Asked::Unknown => Request {
-            call: Call::Reset,
-            answer: UNKNOWN,
-        },
+        0 => Call::Reset,
+        1 => Call::Read(address(first)),
+        2 => Call::Write(address(first), low_byte(second)),
+        3 => Call::Sync(sync_kind(first)),
+        4 => Call::SyncDue,
+        5 => Call::Slot(low_byte(first)),
+        6 => Call::Frame(first != 0),
+        7 => Call::Fault(fault_kind(first)),
+        _ => Call::Timeout,
     }
 }
 

@@ -17,18 +17,6 @@ const UNKNOWN: u32 = 16384;
 
 const WRONG_SIZE: u32 = 16640;
 
-// What a kind and its two numbers stand for.
-enum Asked {
-    Step(Call),
-    Unknown,
-}
-
-// The call to make where the answer is 0; any other answer is given as it is, and nothing is done.
-struct Request {
-    call: Call,
-    answer: u32,
-}
-
 // The bytes of a record.
 #[no_mangle]
 pub extern "C" fn hevrukan_size() -> usize
@@ -62,11 +50,11 @@ pub extern "C" fn hevrukan_step(
 ) -> u32
     ensures { λ r. ⌜ stepEffect (now (c .entry)) size kind first second (now (frame .entry)) (now (room .entry)) ≡ record { next = now (c .exit); answer = r; room = now (room .exit) } ⌝ }
 {
-    let asked = calls::requested(size, kind, first, second);
-    if asked.answer != 0 {
-        return asked.answer;
+    let wrong = calls::judged(size, kind, first, second);
+    if wrong != 0 {
+        return wrong;
     }
-    let call = asked.call;
+    let call = calls::meant(kind, first, second);
     let answer = match call {
         Call::Frame(good) => lent::frame(c, good, frame),
         _ => lent::step(c, call, calls::no_frame(), room),
