@@ -2,8 +2,8 @@
 // The functions take the fourteen bytes by value and return them so; each answers for every argument.
 ghost use mathlib.Core.Path.{_≡_};
 ghost use Prim.Native.Nat.{_+_, min};
-ghost use lib.ListN.{getD, length};
-ghost use Rattle.contents.specs.Bytes.{cut, withIdent, withLength, withData, storeFrame, frameOf};
+ghost use lib.ListN.{getD, drop, length};
+ghost use Rattle.contents.specs.Bytes.{cut, wellSized, withIdent, withLength, withData, storeFrame, frameOf};
 ghost use Rattle.contents.specs.Room.{roomAfter};
 
 // Identifier, length, data 0 to 11: fourteen bytes that travel as one array, copied whole.
@@ -56,8 +56,8 @@ pub fn with_data(old: [u8; 14], j: u8, v: u8) -> [u8; 14]
     b
 }
 
-// The contents after a frame is stored: its identifier, its length cut, and that many of its data bytes, or all of them
-// where it has fewer; later bytes stay.
+// The contents after a frame is stored whose parts are given: its identifier, its length cut, and that many of its data bytes,
+// or all of them where it has fewer; later bytes stay.
 pub fn store(old: [u8; 14], ident: u8, len: u8, bytes: &[u8]) -> [u8; 14]
     ensures { λ r. ⌜ r ≡ storeFrame (record { bytes = old }) ident len (now (bytes .entry)) .bytes ⌝ }
 {
@@ -72,6 +72,37 @@ pub fn store(old: [u8; 14], ident: u8, len: u8, bytes: &[u8]) -> [u8; 14]
         k += 1;
     }
     b
+}
+
+// Byte k of a slice, 0 past its end.
+pub fn byte_or_zero(f: &[u8], k: usize) -> u8
+    ensures { λ r. ⌜ r ≡ getD (now (f .entry)) k 0 ⌝ }
+{
+    if k < f.len() {
+        return f[k];
+    }
+    0
+}
+
+// The contents after a frame is stored that is one slice: its data part goes on to `store` as it stands. An identifier or a
+// length byte that it lacks is 0.
+pub fn store_frame(b: [u8; 14], f: &[u8]) -> [u8; 14]
+    ensures { λ r. ⌜ r ≡ storeFrame (record { bytes = b }) (getD (now (f .entry)) 0 0) (getD (now (f .entry)) 1 0) (drop 2 (now (f .entry))) .bytes ⌝ }
+{
+    if f.len() < 2 {
+        return store(b, byte_or_zero(f, 0), byte_or_zero(f, 1), b"");
+    }
+    store(b, f[0], f[1], &f[2..])
+}
+
+// The slice has 2 + min(12, the length byte's low four bits) bytes.
+pub fn well_sized(f: &[u8]) -> bool
+    ensures { λ r. ⌜ r ≡ wellSized (now (f .entry)) ⌝ }
+{
+    if f.len() < 2 {
+        return false;
+    }
+    f.len() == 2 + cut(f[1]) as usize
 }
 
 // The bytes of a frame that is sent with a length: identifier, length, and min(12, length) data bytes.

@@ -1,16 +1,16 @@
--- Laws of the bus events' proofs: a frame's size, a frame over a buffer's bytes, and the bytes of a buffer past the last.
-use Prim.Native.Nat.{ℕ, _+_, _-_, _%_, _≤_, _<_}
-use mathlib.Core.Bool.{Bool, true, false, not}
-use mathlib.Core.List.{List, []}
+-- Laws of the bus events' proofs: a frame's size, the bytes of a buffer, also past the last, and a frame stored in one.
+use Prim.Native.Nat.{ℕ, _+_, _%_, _≤_, _<_}
+use mathlib.Core.Bool.{Bool, false, not}
+use mathlib.Core.List.{List}
 use mathlib.Core.Path.{_≡_, refl, sym, ap, _∙_}
 use native.Mathlib.Omega.{arith}
-use borrow.Author.Tests.{lt-ltb, le-ltb, ltb-true, ltb-false, eqb-true, not-true, not-false, ne-eqb}
-use lib.Dec.{eqb, ltb}
-use lib.ListN.{getD, set, take, drop, length, replicate, List·getD-eq-default, drop-of-length-le, length-drop}
-use lib.Seq.{take-all, set-out}
+use borrow.Author.Tests.{lt-ltb, le-ltb, ltb-true, ltb-false, eqb-true, not-false}
+use lib.Dec.{ltb}
+use lib.ListN.{getD, set, drop, length, replicate, List·getD-eq-default}
+use lib.Seq.{set-out}
 use Rattle.masks.specs.Pick.{pick-true, pick-false, by-test}
 use Rattle.contents.specs.declared.Contents.{Contents}
-use Rattle.contents.specs.Bytes.{noContents, cut, storeFrame, bytesFrom, frameOf, fillRoom}
+use Rattle.contents.specs.Bytes.{noContents, cut, wellSized, storeFrame, bytesFrom, frameOf, fillRoom}
 use Rattle.contents.specs.Room.{roomAfter, room-filled}
 use Rattle.rules.specs.Refusals.{refuses11}
 use Rattle.controller.specs.Carry.{rowAt}
@@ -20,42 +20,14 @@ use Rattle.controller.specs.Code.{rowBytes, storedRow, roomBy, roomSent}
 
 -- ---- a frame's size
 
-not-not : (t : Bool) → t ≡ not (not t)
-not-not true = refl
-not-not false = refl
-
-pub sized : (f : List ℕ) → eqb (length f) (2 + cut (getD f 1 0)) ≡ not (refuses11 f)
-unfolding refuses11
-sized f = not-not (eqb (length f) (2 + cut (getD f 1 0)))
-
 -- r being the answer of `well_sized`
-pub size-refused : (f : List ℕ) (r : Bool) → r ≡ not (refuses11 f) → not r ≡ true → refuses11 f ≡ true
-size-refused f r e h = not-false (refuses11 f) (sym e ∙ not-true r h)
-
-pub size-taken : (f : List ℕ) (r : Bool) → r ≡ not (refuses11 f) → not r ≡ false → refuses11 f ≡ false
-size-taken f r e h = not-true (refuses11 f) (sym e ∙ not-false r h)
+pub size-told : (f : List ℕ) (r : Bool) {t : Bool} → r ≡ wellSized f → not r ≡ t → refuses11 f ≡ t
+unfolding refuses11
+size-told f r e h = sym (ap not e) ∙ h
 
 pub sized-long : (f : List ℕ) → refuses11 f ≡ false → 2 ≤ length f
 unfolding refuses11
 sized-long f e = let h = eqb-true (length f) (2 + cut (getD f 1 0)) (not-false _ e) in omega arith
-
-pub not-sized : (f : List ℕ) → length f < 2 → false ≡ not (refuses11 f)
-not-sized f h = sym (ne-eqb (length f) (2 + cut (getD f 1 0)) (λ e. omega arith)) ∙ sized f
-
--- ---- a frame's bytes over a buffer's
-
-module _ (b f : List ℕ) where
-  -- a slice with no data part
-  pub store-short : (i l : ℕ) → i ≡ getD f 0 0 → l ≡ getD f 1 0 → length f < 2 →
-      storeFrame (record { bytes = b }) i l [] .bytes ≡ storeFrame (record { bytes = b }) (getD f 0 0) (getD f 1 0) (drop 2 f) .bytes
-  store-short i l p q h = simp (p, q, drop-of-length-le f {i = 2} (omega arith))
-
-  -- the data part of a longer one is the slice from byte 2 on
-  pub store-rest : storeFrame (record { bytes = b }) (getD f 0 0) (getD f 1 0) (take (length f - 2) (drop 2 f)) .bytes
-      ≡ storeFrame (record { bytes = b }) (getD f 0 0) (getD f 1 0) (drop 2 f) .bytes
-  store-rest =
-      ap (λ (d : List ℕ). storeFrame (record { bytes = b }) (getD f 0 0) (getD f 1 0) d .bytes)
-      (take-all (length f - 2) (drop 2 f) (let h = length-drop 2 f in omega arith))
 
 -- ---- the bytes of buffer n
 

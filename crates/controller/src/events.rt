@@ -1,12 +1,9 @@
 // The bus events, and the five interrupt lines.
 ghost use mathlib.Core.Path.{_≡_};
-ghost use mathlib.Core.Bool.{not};
 ghost use Prim.Native.Nat.{ℕ, _%_};
 ghost use mathlib.Core.List.{List, []};
-ghost use lib.ListN.{getD, drop, length, replicate};
+ghost use lib.ListN.{length, replicate};
 ghost use Rattle.contents.specs.declared.Contents.{Contents};
-ghost use Rattle.contents.specs.Bytes.{storeFrame};
-ghost use Rattle.rules.specs.Refusals.{refuses11};
 ghost use Rattle.rules.specs.Bus.{lookup, offers};
 ghost use Rattle.masks.specs.Bits.{highest, maskOf};
 ghost use Rattle.bus_steps.specs.Code.{isReady};
@@ -28,36 +25,6 @@ use rules::Fault;
 use rules::Ruling;
 use rules::SyncKind;
 use rules::Verdict;
-
-// The slice has 2 + min(12, the length byte's low four bits) bytes.
-fn well_sized(f: &[u8]) -> bool
-    ensures { λ r. ⌜ r ≡ not (refuses11 (now (f .entry))) ⌝ }
-{
-    if f.len() < 2 {
-        return false;
-    }
-    f.len() == 2 + contents::cut(f[1]) as usize
-}
-
-// Byte k of a slice, 0 past its end.
-fn byte_or_zero(f: &[u8], k: usize) -> u8
-    ensures { λ r. ⌜ r ≡ getD (now (f .entry)) k 0 ⌝ }
-{
-    if k < f.len() {
-        return f[k];
-    }
-    0
-}
-
-// A frame's bytes over a buffer's: its data part goes on as it stands.
-fn store_frame(b: [u8; 14], f: &[u8]) -> [u8; 14]
-    ensures { λ r. ⌜ r ≡ storeFrame (record { bytes = b }) (getD (now (f .entry)) 0 0) (getD (now (f .entry)) 1 0) (drop 2 (now (f .entry))) .bytes ⌝ }
-{
-    if f.len() < 2 {
-        return contents::store(b, byte_or_zero(f, 0), byte_or_zero(f, 1), b"");
-    }
-    contents::store(b, f[0], f[1], &f[2..])
-}
 
 // The row to look at for buffer n: its own, and any other past the last.
 pub(crate) fn row_at(n: u8) -> usize
@@ -84,7 +51,7 @@ fn stored(c: Control, n: u8, row: Contents, f: &[u8], a: Answer) -> Change
         return with_answer(c, a);
     }
     let b = row.bytes;
-    with_bytes(c, n, store_frame(b, f), a)
+    with_bytes(c, n, contents::store_frame(b, f), a)
 }
 
 // The control state d with the configuration and the locks of c. No event of the bus changes these: taken from c, from before the
@@ -228,7 +195,7 @@ impl Controller {
         ensures { λ r. ⌜ ruled self (now (f .entry)) r ≡ doneOf (stepOf self (frame good (now (f .entry)))) ⌝ }
     {
         let c = self.control;
-        if !well_sized(f) {
+        if !contents::well_sized(f) {
             return Ruling {
                 next: c,
                 verdict: Verdict::Say(Answer::Refused(11)),

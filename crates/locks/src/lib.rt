@@ -40,10 +40,14 @@ impl Locks {
         n == self.holder || n == self.contender
     }
 
-    // The mask of the locked buffers, at most two; 0 where there is none.
+    // The mask of the locked buffers, at most two; 0 where there is none. Most of the time there is none: asking first saves two
+    // shifts at each sync.
     pub fn locked_mask(self) -> u16
         ensures { λ r. ⌜ r ≡ maskOf (inPair self) ⌝ }
     {
+        if 16 <= self.holder && 16 <= self.contender {
+            return 0;
+        }
         masks::one(self.holder) | masks::one(self.contender)
     }
 

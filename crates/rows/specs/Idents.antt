@@ -1,4 +1,4 @@
--- The sixteen identifiers as a list, and the mask of those that pass a test, gathered on a walk upwards.
+-- The sixteen identifiers as a list, the mask of those that pass a test, gathered on a walk upwards, and the searches among them.
 use Prim.Native.Nat.{ℕ, zero, suc, _+_, _-_, _<_, _≤_}
 use mathlib.Core.Bool.{Bool, true, false, not, _&&_, _||_}
 use mathlib.Core.List.{List, [], _∷_}
@@ -10,7 +10,7 @@ use lib.ListN.{getD}
 use lib.Bits.{bitAnd}
 use Rattle.masks.specs.Pick.{by-test}
 use Rattle.masks.specs.Bits.{bitOf, maskOf, lowest, highest}
-use Rattle.masks.specs.Laws.{bit-none, bit-mask, bit-and, mask-of, same-mask, own, and-by, not-by-mask}
+use Rattle.masks.specs.Laws.{bit-none, bit-mask, mask-of, same-mask, own, and-by, not-by-mask}
 use Rattle.masks.specs.Search.{lowest-ext, highest-ext}
 use Rattle.contents.specs.declared.Contents.{Contents}
 use Rattle.rows.specs.Search.{identAt, carriesAt, namedAt, isNamedIn, lowestWith, highestWith, namedOf}
@@ -89,33 +89,43 @@ unfolding upTo
 up-all f m p =
     p ∙ same-mask (λ n. ltb n 16 && f n) f (λ n l. ap (λ (t : Bool). t && f n) (lt-ltb n 16 l))
 
--- ---- the searches, x being the mask of the identifiers that are i
+-- ---- the searches over the identifiers alone
 
-module _ (rows : List Contents) (ids : List ℕ) (m i x : ℕ) (of-rows : ids ≡ identsOf rows) (gathered : x ≡ maskOf (λ n. eqb (getD ids n 0) i)) where
-  is-i : x ≡ maskOf (λ n. eqb (identAt rows n) i)
-  is-i =
-      gathered
-      ∙ same-mask (λ n. eqb (getD ids n 0) i) (λ n. eqb (identAt rows n) i)
-      (λ n l. ap (λ (k : ℕ). eqb k i) (ap (λ (zs : List ℕ). getD zs n 0) of-rows ∙ firsts-at 16 (identAt rows) n l))
+-- buffer n is in the mask m, and its identifier among ids is i
+unfoldable pub carriesIn : List ℕ → ℕ → ℕ → ℕ → Bool
+carriesIn ids m i n = bitOf m n && eqb (getD ids n 0) i
 
-  both : (n : ℕ) → n < 16 → bitOf (bitAnd m x) n ≡ carriesAt rows m i n
-  unfolding carriesAt
-  both n l =
-      bit-and m x n
-      ∙ ap (λ (t : Bool). bitOf m n && t) (ap (λ (k : ℕ). bitOf k n) is-i ∙ bit-mask (λ n. eqb (identAt rows n) i) n l)
+module _ (ids : List ℕ) (m i n : ℕ) where
+  pub in-mask : {t : Bool} → bitOf m n ≡ true → eqb (getD ids n 0) i ≡ t → carriesIn ids m i n ≡ t
+  unfolding carriesIn
+  in-mask p q = ap₂ _&&_ p q
 
-  pub lowest-idents : lowest (bitOf (bitAnd m x)) 0 16 ≡ lowestWith rows m i
+  pub not-in-mask : bitOf m n ≡ false → carriesIn ids m i n ≡ false
+  unfolding carriesIn
+  not-in-mask p = ap (λ (t : Bool). t && eqb (getD ids n 0) i) p
+
+-- ---- the same over the rows
+
+module _ (rows : List Contents) (ids : List ℕ) (of-rows : ids ≡ identsOf rows) where
+  ident-of : (n : ℕ) → n < 16 → getD ids n 0 ≡ identAt rows n
+  ident-of n l = ap (λ (zs : List ℕ). getD zs n 0) of-rows ∙ firsts-at 16 (identAt rows) n l
+
+  carries-own : (m i n : ℕ) → n < 16 → carriesIn ids m i n ≡ carriesAt rows m i n
+  unfolding carriesIn carriesAt
+  carries-own m i n l = ap (λ (k : ℕ). bitOf m n && eqb k i) (ident-of n l)
+
+  pub lowest-idents : (m i : ℕ) → lowest (carriesIn ids m i) 0 16 ≡ lowestWith rows m i
   unfolding lowestWith
-  lowest-idents = lowest-ext (bitOf (bitAnd m x)) (carriesAt rows m i) 0 16 refl both
+  lowest-idents m i = lowest-ext (carriesIn ids m i) (carriesAt rows m i) 0 16 refl (carries-own m i)
 
-  pub highest-idents : highest (bitOf (bitAnd m x)) 16 ≡ highestWith rows m i
+  pub highest-idents : (m i : ℕ) → highest (carriesIn ids m i) 16 ≡ highestWith rows m i
   unfolding highestWith
-  highest-idents = highest-ext (bitOf (bitAnd m x)) (carriesAt rows m i) 16 (omega arith) both
+  highest-idents m i = highest-ext (carriesIn ids m i) (carriesAt rows m i) 16 (omega arith) (carries-own m i)
 
--- x being the mask of the identifiers that are 0
-pub named-idents : (rows : List Contents) (ids : List ℕ) (m x : ℕ) → m < 65536 → ids ≡ identsOf rows → x ≡ maskOf (λ n. eqb (getD ids n 0) 0)
-    → bitAnd m (65535 - x) ≡ namedOf rows m
-unfolding namedOf isNamedIn namedAt
-named-idents rows ids m x h of-rows gathered =
-    and-by m (65535 - x) (bitOf m) (λ n. not (eqb (identAt rows n) 0)) (own m h)
-    (not-by-mask x (λ n. eqb (identAt rows n) 0) (is-i rows ids m 0 x of-rows gathered))
+  -- x being the mask of the identifiers that are 0
+  pub named-idents : (m x : ℕ) → m < 65536 → x ≡ maskOf (λ n. eqb (getD ids n 0) 0) → bitAnd m (65535 - x) ≡ namedOf rows m
+  unfolding namedOf isNamedIn namedAt
+  named-idents m x h gathered =
+      and-by m (65535 - x) (bitOf m) (λ n. not (eqb (identAt rows n) 0)) (own m h)
+      (not-by-mask x (λ n. eqb (identAt rows n) 0) (gathered
+      ∙ same-mask (λ n. eqb (getD ids n 0) 0) (λ n. eqb (identAt rows n) 0) (λ n l. ap (λ (k : ℕ). eqb k 0) (ident-of n l))))

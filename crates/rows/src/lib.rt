@@ -1,7 +1,7 @@
 // The searches over the sixteen buffers' contents: which buffer carries an identifier, and which have one at all.
 // Every function answers for every mask and every identifier; 16 stands for no buffer.
-// The identifiers are taken out one by one, at places that the compiler knows: it then reads these sixteen bytes alone, where
-// an index that it doesn't know would have it copy all contents first.
+// The sixteen identifiers are taken out first, at places that the compiler knows: it then reads these sixteen bytes alone, where
+// an index that it doesn't know would have it copy all contents. A search for one buffer leaves at the first hit.
 ghost use mathlib.Core.Path.{_≡_};
 ghost use lib.Dec.{eqb};
 ghost use lib.ListN.{getD};
@@ -9,8 +9,6 @@ ghost use Rattle.masks.specs.Bits.{maskOf};
 ghost use Rattle.rows.specs.Search.{lowestWith, highestWith, namedOf};
 ghost use Rattle.rows.specs.Idents.{identsOf};
 use contents::Contents;
-use masks::highest_of;
-use masks::lowest_of;
 use masks::with;
 
 // The identifier of a buffer.
@@ -60,18 +58,36 @@ fn equal_to(idents: [u8; 16], i: u8) -> u16
     m
 }
 
-// The lowest buffer of the mask that carries identifier i, or 16.
+// The lowest buffer of the mask that carries identifier i, or 16: the first hit upwards.
 pub fn lowest_with(rows: [Contents; 16], m: u16, i: u8) -> u8
     ensures { λ r. ⌜ r ≡ lowestWith rows m i ⌝ }
 {
-    lowest_of(m & equal_to(idents(rows), i))
+    let ids = idents(rows);
+    let mut k: u8 = 0;
+    while k < 16 {
+        let n = k as usize;
+        if masks::test(m, k) && ids[n] == i {
+            return k;
+        }
+        k += 1;
+    }
+    16
 }
 
-// The highest buffer of the mask that carries identifier i, or 16.
+// The highest buffer of the mask that carries identifier i, or 16: the first hit downwards.
 pub fn highest_with(rows: [Contents; 16], m: u16, i: u8) -> u8
     ensures { λ r. ⌜ r ≡ highestWith rows m i ⌝ }
 {
-    highest_of(m & equal_to(idents(rows), i))
+    let ids = idents(rows);
+    let mut k: u8 = 16;
+    while k > 0 {
+        k -= 1;
+        let n = k as usize;
+        if masks::test(m, k) && ids[n] == i {
+            return k;
+        }
+    }
+    16
 }
 
 // The mask of the buffers of a mask that have an identifier.

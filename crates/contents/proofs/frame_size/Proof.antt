@@ -8,15 +8,12 @@ use Rattle.contents.proofs.frame_size.Reads as reads
 use Rattle.contents.proofs.frame_size.Lts as lts
 use Rattle.contents.proofs.sent_size.Reads as sent-size-reads
 
--- src/lib.rt:87:15
 array-read-sent-size : tie.Need-array-read-sent-size
 array-read-sent-size c = search needs
 
--- src/lib.rt:87:5
 sent-size-requires : tie.Need-sent-size-requires
 sent-size-requires c κs = search needs
 
--- src/lib.rt:84:1
 returns : tie.Need-returns
 returns c = c .sent-size .ensures ∙ sym (frame-size (record { bytes = c .before .args .t1 }))
 

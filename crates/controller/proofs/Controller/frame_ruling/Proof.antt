@@ -3,7 +3,7 @@ use native.Mathlib.Omega.{arith}
 use borrow.Author.Needs.{needs}
 use Rattle.controller.specs.Code.{ruled}
 use Rattle.controller.specs.CodeLaws.{frame-step, frame-refused}
-use Rattle.controller.proofs.EventLaws.{size-refused, size-taken, sized-long}
+use Rattle.controller.proofs.EventLaws.{size-told, sized-long}
 use Rattle.controller.proofs.Controller.frame_ruling.Statement.{statement}
 use Rattle.controller.proofs.Controller.frame_ruling.Tie as tie
 
@@ -14,12 +14,12 @@ returns : tie.Need-returns
 unfolding ruled
 returns c =
     let a = c .before .before .before .before .args in
-    sym (frame-refused (a .self) (a .good) (a .f .now) (size-refused (a .f .now) _ (c .before .well-sized .ensures) (c .if1 .taken)))
+    sym (frame-refused (a .self) (a .good) (a .f .now) (size-told (a .f .now) _ (c .before .well-sized .ensures) (c .if1 .taken)))
 
 shared-slice-read-i : tie.Need-shared-slice-read-i
 shared-slice-read-i c =
     let f = c .before .before .before .before .before .args .f .now in
-    let h = sized-long f (size-taken f _ (c .before .before .well-sized .ensures) (c .before .if1 .left)) in
+    let h = sized-long f (size-told f _ (c .before .before .well-sized .ensures) (c .before .if1 .left)) in
     omega arith
 
 lookup-requires : tie.Need-lookup-requires
@@ -32,7 +32,7 @@ returns-2 : tie.Need-returns-2
 returns-2 c =
     let a = c .before .before .before .before .before .before .before .args in
     let f = a .f .now in
-    let known = size-taken f _ (c .before .before .before .before .well-sized .ensures) (c .before .before .before .if1 .left) in
+    let known = size-told f _ (c .before .before .before .before .well-sized .ensures) (c .before .before .before .if1 .left) in
     rw (c .on-frame .ensures) (sym (frame-step (a .self) (a .good) f (c .before .lookup .result) known (c .before .lookup .ensures)))
 
 pub frame-ruling-spec : {M : Type 1} → statement M

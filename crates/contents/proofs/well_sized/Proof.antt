@@ -1,14 +1,18 @@
 use Prim.Native.Nat.{ℕ, _+_}
-use mathlib.Core.Path.{ap, _∙_}
+use mathlib.Core.Path.{ap, sym}
+use native.Mathlib.Omega.{arith}
 use borrow.Author.Needs.{needs}
+use borrow.Author.Tests.{ne-eqb}
 use lib.Dec.{eqb}
-use lib.ListN.{length}
-use Rattle.controller.proofs.EventLaws.{sized, not-sized}
-use Rattle.controller.proofs.events.well_sized.Statement.{statement}
-use Rattle.controller.proofs.events.well_sized.Tie as tie
+use lib.ListN.{getD, length}
+use Rattle.contents.specs.Bytes.{cut}
+use Rattle.contents.proofs.well_sized.Statement.{statement}
+use Rattle.contents.proofs.well_sized.Tie as tie
 
 returns : tie.Need-returns
-returns c = not-sized (c .before .before .args .f .now) (c .if1 .taken)
+returns c =
+    let f = c .before .before .args .f .now in
+    sym (ne-eqb (length f) (2 + cut (getD f 1 0)) (λ e. omega (arith, c .if1 .taken)))
 
 shared-slice-read-cut : tie.Need-shared-slice-read-cut
 shared-slice-read-cut c = search needs
@@ -25,7 +29,7 @@ add-result c = search needs
 returns-2 : tie.Need-returns-2
 returns-2 c =
     let f = c .before .before .before .before .args .f .now in
-    ap (λ (k : ℕ). eqb (length f) (2 + k)) (c .cut .ensures) ∙ sized f
+    ap (λ (k : ℕ). eqb (length f) (2 + k)) (c .cut .ensures)
 
 pub well-sized-spec : {M : Type 1} → statement M
 well-sized-spec =
