@@ -9,7 +9,6 @@ use lines::Line;
 use lines::Parsed;
 use pieces::Held;
 use rules::Answer;
-use rules::SyncKind;
 
 struct Session {
     controller: Controller,
@@ -54,66 +53,37 @@ fn hexes(bytes: &[u8]) {
     }
 }
 
-// The first k bytes.
-fn first(bytes: &[u8], k: u8) {
+// The text from byte 1 on.
+fn rest(text: &[u8], end: usize) {
+    if 1 <= end && end <= text.len() {
+        put(&text[1..end]);
+    }
+}
+
+// The row of an answer as the replay text has it, behind the number of its line; sent is a sent frame's bytes.
+fn row(answer: Answer, sent: &[u8], irq: u8) {
+    let mut text = [0u8; 64];
+    let end = report::row(&mut text, 0, 1, answer, sent, irq);
+    rest(&text, end);
+}
+
+// The row of a sent frame, which is the room's first k bytes.
+fn sent(room: &[u8], k: u8, irq: u8) {
     let n = k as usize;
-    if n <= bytes.len() {
-        hexes(&bytes[..n]);
+    if n <= room.len() {
+        row(Answer::Sent(k), &room[..n], irq);
     }
 }
 
-fn word(answer: Answer) {
-    match answer {
-        Answer::Ok => put(b"ok"),
-        Answer::Value(_) => put(b"read"),
-        Answer::Stored(_) => put(b"stored"),
-        Answer::Queued(_) => put(b"queued"),
-        Answer::HeldOff(_) => put(b"heldoff"),
-        Answer::HeldBack(_) => put(b"heldback"),
-        Answer::Sent(_) => put(b"sent"),
-        Answer::Pulse(_) => put(b"pulse"),
-        Answer::Refused(_) => put(b"refused"),
-        Answer::Overrun => put(b"overrun"),
-        Answer::Unmatched => put(b"unmatched"),
-        Answer::BadFrame => put(b"badframe"),
-        Answer::Ignored => put(b"ignored"),
-        Answer::Woke => put(b"woke"),
-        Answer::NotSent => put(b"notsent"),
-    }
-}
-
-fn letter(k: SyncKind) {
-    match k {
-        SyncKind::Normal => put(b"N"),
-        SyncKind::Alarm => put(b"A"),
-    }
-}
-
-// The detail of an answer; a sent frame is in the room's first bytes.
-fn detail(answer: Answer, room: &[u8]) {
-    match answer {
-        Answer::Value(v) => hex(v),
-        Answer::Stored(n) => hex(n),
-        Answer::Queued(n) => hex(n),
-        Answer::HeldOff(n) => hex(n),
-        Answer::HeldBack(n) => hex(n),
-        Answer::Sent(k) => first(room, k),
-        Answer::Pulse(k) => letter(k),
-        Answer::Refused(r) => hex(r),
-        _ => put(b"-"),
-    }
-}
-
-fn report(d: Done, room: &[u8]) -> Controller {
+// The report of a step, the room being as it left it.
+fn print(d: Done, room: &[u8]) -> Controller {
     let answer = d.answer;
     let next = d.next;
-    put(b"\t");
-    word(answer);
-    put(b"\t");
-    detail(answer, room);
-    put(b"\t");
-    hex(next.lines());
-    put(b"\n");
+    let irq = next.lines();
+    match answer {
+        Answer::Sent(k) => sent(room, k, irq),
+        _ => row(answer, b"", irq),
+    }
     next
 }
 
@@ -127,35 +97,38 @@ fn framed(c: Controller, good: bool, f: FrameBytes) -> Done {
     c.frame(good, &b)
 }
 
-// Slot i with a room of so many bytes, at most twenty, all EE, which is printed after it.
-fn slot(c: Controller, i: u8, size: u8) -> Controller {
+// The call, by its method.
+fn called(c: Controller, call: Call, f: FrameBytes, room: &mut [u8]) -> Done {
+    match call {
+        Call::Reset => c.reset(),
+        Call::Read(a) => c.read(a),
+        Call::Write(a, v) => c.write(a, v),
+        Call::Sync(k) => c.sync(k),
+        Call::SyncDue => c.sync_due(),
+        Call::Slot(i) => c.slot(i, room),
+        Call::Frame(good) => framed(c, good, f),
+        Call::Fault(k) => c.fault(k),
+        Call::Timeout => c.timeout(),
+    }
+}
+
+// The call with a room of so many bytes, at most twenty, all EE, which is printed after a slot.
+fn reported(c: Controller, call: Call, f: FrameBytes, size: u8) -> Controller {
     let mut room = [0xEEu8; 20];
     if 20 < size {
         return c;
     }
     let n = size as usize;
     let lent = &mut room[..n];
-    let d = c.slot(i, lent);
-    let next = report(d, lent);
+    let d = called(c, call, f, lent);
+    let next = print(d, lent);
+    let Call::Slot(_) = call else {
+        return next;
+    };
     put(b"room ");
     hexes(lent);
     put(b"\n");
     next
-}
-
-// The call, by its method.
-fn called(c: Controller, call: Call, f: FrameBytes, size: u8) -> Controller {
-    match call {
-        Call::Reset => report(c.reset(), b""),
-        Call::Read(a) => report(c.read(a), b""),
-        Call::Write(a, v) => report(c.write(a, v), b""),
-        Call::Sync(k) => report(c.sync(k), b""),
-        Call::SyncDue => report(c.sync_due(), b""),
-        Call::Slot(i) => slot(c, i, size),
-        Call::Frame(good) => report(framed(c, good, f), b""),
-        Call::Fault(k) => report(c.fault(k), b""),
-        Call::Timeout => report(c.timeout(), b""),
-    }
 }
 
 // A byte of a step's line: a tab for a space.
@@ -209,7 +182,7 @@ fn step(s: Session, h: Held) -> Session {
         put(b"\tunread\n");
         return s;
     };
-    let next = called(c, call, frame, s.room);
+    let next = reported(c, call, frame, s.room);
     Session {
         controller: next,
         room: s.room,
