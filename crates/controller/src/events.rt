@@ -120,7 +120,7 @@ impl Controller {
     {
         let c = self.control;
         let r = self.rows;
-        rows::highest_with(r, c.buffers.armed, i)
+        rows::highest_with(r, status::kinds::armed(c), i)
     }
 
     // The full transmit buffers with an identifier: no other can be armed.

@@ -1,7 +1,7 @@
 // The line of a text that comes in pieces.
 ghost use mathlib.Core.Path.{_≡_};
 ghost use Prim.Native.Nat.{min};
-ghost use Rattle.pieces.specs.Feed.{noneHeld, numberAfter};
+ghost use Rattle.pieces.specs.Feed.{noneHeld, numberAfter, isRead};
 ghost use Rattle.pieces.specs.Gather.{gatherOf};
 
 // The bytes of a line that is not ended yet: the first len of them. A length of 65 stands for any above 64.
@@ -75,6 +75,13 @@ pub fn gather(held: Held, piece: &[u8], from: usize, to: usize) -> Gathered
         at: i,
         ended: false,
     }
+}
+
+// A line of this number is read.
+pub fn is_read(number: u32) -> bool
+    ensures { λ r. ⌜ r ≡ isRead number ⌝ }
+{
+    number <= 999999
 }
 
 // The index up to which gather takes the bytes: that of the first LF from index from on, if one is there.

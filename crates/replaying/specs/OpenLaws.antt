@@ -5,7 +5,7 @@ use mathlib.Core.Path.{_≡_, refl, sym, ap, subst, _∙_}
 use mathlib.Core.Bool.{true, false, false≢true}
 use mathlib.Core.List.{List, [], _++_}
 use lib.ListN.{length, take, replicate}
-use borrow.Author.Tests.{lt-ltb, le-ltb, le-leb, lt-leb}
+use borrow.Author.Tests.{lt-ltb, le-ltb}
 use Rattle.masks.specs.Pick.{pick, pick-true, pick-false}
 use Rattle.rules.specs.declared.Answer.{Answer}
 use Rattle.rules.specs.Answers.{Detail, wordOf, detailOf}
@@ -32,16 +32,6 @@ use Rattle.replaying.specs.declared.Turn.{Turn}
 use Rattle.replaying.specs.Replay.{stepIn, playedBy, stepRow, rowBy, play, showRow}
 use Rattle.replaying.specs.Sent.{sentSize, detail-shown, sent-fits}
 use Rattle.replaying.specs.Turn.{reaches, passes, unreadOf, countedOf, feedAt, Open, AtLf, Due, Settled, Stepped}
-
--- ---- which lines are read
-
-pub is-read : (n : ℕ) → n ≤ 999999 → isRead n ≡ true
-unfolding isRead
-is-read n h = le-leb n 999999 h
-
-pub is-past : (n : ℕ) → 999999 < n → isRead n ≡ false
-unfolding isRead
-is-past n h = lt-leb n 999999 h
 
 -- ---- what is held, as a line
 

@@ -119,7 +119,7 @@ fn line_ended(t: Turn, p: Parsed, next: usize, out: &mut [u8]) -> Turn
     let number = t.number;
     let irq = t.irq;
     let tally = t.tally;
-    if 999999 < number {
+    if !pieces::is_read(number) {
         return passed(t, next, irq, tally, t.written);
     }
     let line = p.line;

@@ -49,6 +49,14 @@ pub fn full(c: Control) -> u16
     b.cfg & !b.iflg
 }
 
+// The buffers that the last sync armed: only these are sent.
+pub fn armed(c: Control) -> u16
+    ensures { λ r. ⌜ r ≡ c .buffers .armed ⌝ }
+{
+    let b = c.buffers;
+    b.armed
+}
+
 // Buffer n is a holder, a contender, or the locked entry of the FIFO.
 pub fn is_locked(c: Control, n: u8) -> bool
     ensures { λ r. ⌜ r ≡ isLocked c n ⌝ }
