@@ -7,6 +7,8 @@ ghost use Rattle.rules.specs.Rules.{wakes};
 ghost use Rattle.rules.specs.Bus.{toBuffer, fifoTakes, withEntry, toFifo, raiseLast, judged};
 ghost use Rattle.bus_steps.specs.Code.{rulingOf};
 ghost use Rattle.bus_steps.specs.Marks.{decided, risen, entered, base, marked, ruledBy};
+use kinds::is_locked;
+use kinds::place_after;
 use modes::wake;
 use rules::Answer;
 use rules::Control;
@@ -15,8 +17,6 @@ use rules::Verdict;
 use rules::bits::ERRIF;
 use rules::bits::OVRNIF;
 use rules::bits::WAKEIF;
-use status::kinds::is_locked;
-use status::kinds::place_after;
 
 // What a frame marks: whether the last identifier rises to the frame's, whose IFLG is set, which flags of $07 are set,
 // whether the FIFO has one more entry, and whether the module wakes.

@@ -4,11 +4,11 @@ ghost use Rattle.rules.specs.Bus.{sentFrom, sendFrom, slotFor};
 ghost use Rattle.rules.specs.Record.{withMode, withLast};
 ghost use Rattle.bus_steps.specs.Code.{rulingOf};
 use crate::ruling;
+use kinds::is_locked;
 use rules::Answer;
 use rules::Control;
 use rules::Ruling;
 use rules::Verdict;
-use status::kinds::is_locked;
 
 // Buffer n after sending.
 fn sent_from(c: Control, i: u8, n: u8) -> Control

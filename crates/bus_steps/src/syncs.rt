@@ -4,9 +4,9 @@ ghost use Rattle.masks.specs.Bits.{maskOf};
 ghost use Rattle.rules.specs.Bus.{dueKind, timedOut};
 ghost use Rattle.bus_steps.specs.Code.{armsOf, syncedOf};
 use crate::events::sync_events;
+use kinds::locked_mask;
 use rules::Control;
 use rules::SyncKind;
-use status::kinds::locked_mask;
 
 // What a sync arms of the buffers m, the full transmit buffers with an identifier.
 fn arming(c: Control, m: u16) -> u16

@@ -111,7 +111,7 @@ impl Controller {
     {
         let c = self.control;
         let r = self.rows;
-        rows::lowest_with(r, status::kinds::receivers(c), i)
+        rows::lowest_with(r, kinds::receivers(c), i)
     }
 
     // The highest armed buffer with identifier i, 16 for none.
@@ -120,7 +120,7 @@ impl Controller {
     {
         let c = self.control;
         let r = self.rows;
-        rows::highest_with(r, status::kinds::armed(c), i)
+        rows::highest_with(r, kinds::armed(c), i)
     }
 
     // The full transmit buffers with an identifier: no other can be armed.
@@ -128,7 +128,7 @@ impl Controller {
         ensures { λ r. ⌜ r ≡ maskOf (isReady (self .control) (heads (self .rows))) ⌝ }
     {
         let c = self.control;
-        let full = status::kinds::full(c);
+        let full = kinds::full(c);
         if full == 0 {
             return 0;
         }

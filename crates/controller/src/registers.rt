@@ -49,7 +49,7 @@ fn holder_of(c: Control, register: Register) -> u8
     match register {
         Register::TransmitWindow(_) => c.transmit.holder,
         Register::ReceiveWindow(_) => c.receive.holder,
-        Register::FifoWindow(_) => status::kinds::fifo_holder(c),
+        Register::FifoWindow(_) => kinds::fifo_holder(c),
         _ => 16,
     }
 }
@@ -72,7 +72,7 @@ fn register_value(c: Control, register: Register, row: Contents) -> u8
     match register {
         Register::TransmitWindow(p) => window_byte(c.transmit.holder, p, row),
         Register::ReceiveWindow(p) => window_byte(c.receive.holder, p, row),
-        Register::FifoWindow(p) => window_byte(status::kinds::fifo_holder(c), p, row),
+        Register::FifoWindow(p) => window_byte(kinds::fifo_holder(c), p, row),
         _ => status::reads::value_of(c, register),
     }
 }

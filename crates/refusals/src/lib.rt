@@ -8,15 +8,15 @@ ghost use Rattle.masks.specs.Bits.{someOf};
 ghost use Rattle.rules.specs.Registers.{between};
 ghost use Rattle.rules.specs.Refusals.{refuses2, refuses3, onlyInInit, refuses4, refuses5, refuses6, movedByFsiz, refuses8, readRefusal, writeRefusal};
 ghost use Rattle.refusals.specs.Code.{lockRefusal, controlRefusal, lowRefusal};
+use kinds::cfg_after;
+use kinds::is_lawful;
+use kinds::is_locked;
+use kinds::is_oldest;
+use kinds::is_transmit;
+use kinds::locked_mask;
 use rules::Control;
 use rules::bits::INITRQ;
 use rules::bits::LOCK;
-use status::kinds::cfg_after;
-use status::kinds::is_lawful;
-use status::kinds::is_locked;
-use status::kinds::is_oldest;
-use status::kinds::is_transmit;
-use status::kinds::locked_mask;
 
 fn between(low: u8, a: u8, high: u8) -> bool
     ensures { λ r. ⌜ r ≡ between low a high ⌝ }

@@ -1,1 +1,1 @@
-pub mod KindLaws
+mod AddressLaws

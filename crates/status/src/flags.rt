@@ -3,7 +3,7 @@ ghost use mathlib.Core.Path.{_≡_};
 ghost use Rattle.masks.specs.Bits.{maskOf};
 ghost use Rattle.rules.specs.Registers.{withFlag};
 ghost use Rattle.rules.specs.Flags.{receivePending, transmitPending, receiveVector, transmitVector, rxif, txif, risr, gisr, raises, linesOf};
-use crate::kinds::lockif;
+use kinds::lockif;
 use rules::Control;
 use rules::bits::LOCKIF;
 use rules::bits::RCVFIF;

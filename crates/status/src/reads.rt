@@ -7,7 +7,7 @@ use crate::flags::receive_vector;
 use crate::flags::risr;
 use crate::flags::transmit_vector;
 use crate::flags::with_flag;
-use crate::kinds::is_locked;
+use kinds::is_locked;
 use rules::Control;
 use rules::Mode;
 use rules::Register;

@@ -3,6 +3,10 @@ ghost use mathlib.Core.Path.{_≡_};
 ghost use Rattle.rules.specs.Writes.{writeCfg, writeIena, clearIflg, writeIflg, abort, writeAbtrq, writeLock, writeBufctl};
 use crate::locking::lock;
 use crate::locking::unlock;
+use kinds::cfg_after;
+use kinds::is_full_transmit;
+use kinds::is_locked;
+use kinds::is_transmit;
 use modes::with_buffers;
 use rules::Buffers;
 use rules::Control;
@@ -10,10 +14,6 @@ use rules::bits::ABTRQ;
 use rules::bits::IENA;
 use rules::bits::IFLG;
 use rules::bits::LOCK;
-use status::kinds::cfg_after;
-use status::kinds::is_full_transmit;
-use status::kinds::is_locked;
-use status::kinds::is_transmit;
 
 fn write_cfg(c: Control, n: u8, v: u8) -> Control
     ensures { λ r. ⌜ r ≡ writeCfg c n v ⌝ }

@@ -4,15 +4,15 @@ ghost use Rattle.rules.specs.Record.{withFifo};
 ghost use Rattle.rules.specs.Writes.{entersByLock, lockError, disarm, lockFifo, lock, withoutOldest, releaseFifo, unlock};
 use crate::parts::with_receive;
 use crate::parts::with_transmit;
+use kinds::is_receive;
+use kinds::is_transmit;
+use kinds::place_after;
 use locks::Locks;
 use modes::enter;
 use modes::with_fifo;
 use rules::Control;
 use rules::Fifo;
 use rules::bits::LOCKIE;
-use status::kinds::is_receive;
-use status::kinds::is_transmit;
-use status::kinds::place_after;
 
 // A new lock of the kind whose locks were l enters initialization.
 fn enters_by_lock(c: Control, l: Locks) -> bool

@@ -4,7 +4,7 @@ use mathlib.Core.Bool.{_||_}
 use borrow.Author.Needs.{needs}
 use Rattle.rules.specs.Flags.{raises, linesOf}
 use Rattle.rules.specs.Registers.{SLMMIF}
-use Rattle.status.proofs.KindLaws.{or-first, or-second}
+use Rattle.kinds.proofs.KindLaws.{or-first, or-second}
 use Rattle.status.proofs.flags.lines.Statement.{statement}
 use Rattle.status.proofs.flags.lines.Tie as tie
 

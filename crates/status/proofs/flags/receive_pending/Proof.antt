@@ -2,7 +2,7 @@ use native.Mathlib.Omega.{arith}
 use borrow.Author.Needs.{needs}
 use Rattle.masks.specs.Laws.{own, and-by, not-by-mask}
 use Rattle.rules.specs.Flags.{receivePending}
-use Rattle.status.proofs.KindLaws.{from-on}
+use Rattle.kinds.proofs.KindLaws.{from-on}
 use Rattle.status.proofs.flags.receive_pending.Statement.{statement}
 use Rattle.status.proofs.flags.receive_pending.Tie as tie
 

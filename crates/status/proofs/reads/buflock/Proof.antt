@@ -4,7 +4,7 @@ use mathlib.Core.Logic.{⊎-elim}
 use borrow.Author.Needs.{needs}
 use Rattle.locks.specs.Pair.{hasHolder, hasContender}
 use Rattle.rules.specs.Reads.{buflock}
-use Rattle.status.proofs.KindLaws.{or-first, or-second}
+use Rattle.kinds.proofs.KindLaws.{or-first, or-second}
 use Rattle.status.proofs.reads.buflock.Statement.{statement}
 use Rattle.status.proofs.reads.buflock.Tie as tie
 

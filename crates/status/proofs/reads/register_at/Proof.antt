@@ -2,7 +2,7 @@ use mathlib.Core.Path.{ap, sym}
 use native.Mathlib.Omega.{arith}
 use Rattle.masks.specs.Pick.{pick}
 use Rattle.rules.specs.Registers.{lowMap, registerAt}
-use Rattle.status.proofs.KindLaws.{at-transmit, at-receive, at-fifo, at-bufctl, after-transmit, after-receive, after-fifo, after-all, low-reserved}
+use Rattle.status.proofs.AddressLaws.{at-transmit, at-receive, at-fifo, at-bufctl, after-transmit, after-receive, after-fifo, after-all, low-reserved}
 use Rattle.status.proofs.reads.register_at.Statement.{statement}
 use Rattle.status.proofs.reads.register_at.Tie as tie
 

@@ -4,7 +4,7 @@ use mathlib.Core.Logic.{⊎-elim}
 use borrow.Author.Tests.{eq-eqb, ne-eqb}
 use Rattle.rules.specs.Registers.{has, SYNLIF}
 use Rattle.rules.specs.Flags.{defersClear}
-use Rattle.status.proofs.KindLaws.{and-first, and-second}
+use Rattle.kinds.proofs.KindLaws.{and-first, and-second}
 use Rattle.writes.proofs.events.defers_clear.Statement.{statement}
 use Rattle.writes.proofs.events.defers_clear.Tie as tie
 use Rattle.writes.proofs.events.defers_clear.Reads as reads
