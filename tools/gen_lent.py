@@ -1,11 +1,11 @@
 #!/usr/bin/env python3
-"""Write the walks of crate lent: usage: gen_lent.py FN > proofs/FN/Proof.antt, then rt fmt. FN is carry, frame or step."""
+"""Write the walks of crate lent: usage: gen_lent.py FN > proofs/FN/Proof.antt, then rt fmt. FN is carry, frame, write or step."""
 import os,re,sys
 sys.path.insert(0,os.path.dirname(os.path.abspath(__file__)))
 from walk import Walk,Decl,lst,tup,par,met,G,AM
 crate="lent"; modp=f"Rattle.{crate}.proofs"; spec=f"Rattle.{crate}.specs"; FN=sys.argv[1]
 Con=Decl("Controller","T","struct","controller",False)
-Cha=Decl("Change","S","struct","controller",False)
+Cha=Decl("Change","S","struct","controller",False); Cha.den="Change"
 Cal=Decl("Call","Call-row","enum","controller",False)
 Fra=Decl("FrameBytes","Frame-row","struct","controller",False)
 Rul=Decl("Ruling","Ruling-row","struct","rules",False)
@@ -58,7 +58,7 @@ use sound.WpLaws.{{FmC, fmOf, WpFn-mono}}
 use denote.RattleType.{{owns}}
 use denote.Laws.{{Is, shows}}
 use denote.Memory.{{mem, cellAt, pointee}}
-use denote.Plain.{{uint-makes, uint-lawful, bool-makes, bool-vals, bool-tells}}
+use denote.Plain.{{uint-vals, uint-tells, uint-makes, uint-lawful, bool-makes, bool-vals, bool-tells}}
 use denote.Builtin.{{u8, usize, bool as boolean}}
 use denote.Ref.{{RefT, MutRef, ptr-vals, mut-tells}}
 use denote.Slice.{{sliceTy, sliceVal, ShrSlice, MutSlice, Room, finally, slice-vals, shr-slice-tells, mut-slice-tells, shr-slice-copy, res-finally, codedHoleys, heres}}
@@ -487,12 +487,9 @@ def frame():
     held={"obs":OBS("h"),"bor":BOR,"tok":TOK,"f":"‵ Bytes","t-f":TF}
     # ---- the change is carried out, and the `return`
     ys=[8,4,5,6,9,10,11,12]; start2=(ctx,LT,{**val,**{i:f"y{i}" for i in ys},7:Cha.val("x")},held); w.ctx=list(ctx)
-    w.again_ref(1,13); w.to(["obs","bor","tok"]); w.emit(f"group ! 3 $ use1 W (raw ({carries.at()} .pre (to-carry x))) (asked-carry x x-is) $\n"); w.give(3,["pre"])
-    called(w,carries,"(to-carry x)","(args-carry x)",[w.load(13),w.load(7)],"Answer","m","v","(κ, tt)",f"({TOK} ⊛ ‵ ftrue)",Ans.row(),"(ws .0 ≡ changed h x .next) × (m ≡ x .answer)","d")
-    w.ctx=["lasts","out"]+w.ctx[2:]; w.emit("fsplit ! $\n"); w.give(1,["res","more"]); w.to(["out"]); w.emit("split ! $ "); w.give(1,["toks","own"]); w.to(["own"])
-    w.emit(Ans.peeks("m","(v ∷ [])")+"(λ is. drop ! $ split ! $\n"); w.give(2,["tok","true"]); w.land(0,LT[0],Ans.typed("m","is"),Ans.same("m","is"))
+    lends(w,carries,13,"(to-carry x)","(asked-carry x x-is)","(args-carry x)",[7],CARRIED); w.land(0,LT[0],Ans.typed("m","is"),Ans.same("m","is"))
     end=["res","tok","f","t-f"]; w.emit(f"returns ! (look ! {w.cell(0)} refl) $ "); w.free(N,range(N)); w.keep(end)
-    w.emit("by ! (exits (ws .0) m (d .0 ∙ ap (λ (u : Done). u .next) e, d .1 ∙ ap (λ (u : Done). u .answer) e) (answer-is m _ is))")
+    w.emit(f"by ! (exits (ws .0) m ({ENDS}) (answer-is m _ is))")
     lemma("-- the change is carried out, the record being lent again at its own lifetime","carrying",us(ys)+f"(x : Change) → {Cha.is_('x')} → changed h x ≡ {GOAL} → ","carrying x x-is e",piece(10),RET,start2,w.text())
     def change(w,fact):
         passed(changer,f"(to-changer r ({ROW}))",f"(args-changer r ({ROW}))",f"(asked-changer r ({ROW}) r-is k-is)",lambda:[w.load(4),w.load(6),w.load(3)],"Change","x",Cha.row(),fact,"d")
@@ -606,24 +603,205 @@ module _ {G} (W : Given 𝓤 H A) {AM} (κ κ-f : Lft) (q q-f : Share) (b o : �
       [f"(κs .0) (κs .1 .0) (qs .0) (qs .1 .0) ({pa(0)} .ptr .0) ({pa(0)} .ptr .1) ({pa(0)} .name) ({pa(0)} .now) ({pa(1)}) ({pa(2)} .ptr .0) ({pa(2)} .ptr .1) ({pa(2)} .name) ({pa(2)} .now) (are{path(2)} .0 .1) C Λ fm {known(CS)}"],
       ["goes-gave-ref 𝓤 H A W 2 0 tt (plain (λ _. T.the-row))","goes-none 𝓤 H A W 2 (λ _. boolean) yes (λ κs x f. refl)","goes-none-slice 𝓤 H A W 2 (1 ∷ []) tt (plain (λ _. u8)) yes"]))
 
-def ask_carry(carries):
-    """what `carry` asks, the record's reference being given in its parts"""
-    w=Walk(6); w.ctx=["obs","bor","tok"]; w.emit("nothing ! $ "); w.give(0,["t"]); w.to(["tok","t"]); w.emit("join ! $ nothing ! $ "); w.give(2,["X","t"]); w.emit(Cha.owned("x","x-is")+"fjoin ! $ "); w.to(["obs","bor","X"])
+def lends(w,fn,ref,to,asked,args,ops,says,last=False):
+    """the record is lent again at its own lifetime to fn, whose answer is m; d: what fn says of it and of the record at exit"""
+    w.again_ref(1,ref); w.to(["obs","bor","tok"]); w.emit(f"group ! 3 $ use1 W (raw ({fn.at()} .pre {to})) {asked} $\n"); w.give(3,["pre"])
+    called(w,fn,to,args,[w.load(ref)]+[w.load(i) for i in ops],"Answer","m","v","(κ, tt)",f"({TOK} ⊛ ‵ ftrue)",Ans.row(),says,"d",last=last)
+    w.ctx=["lasts","out"]+w.ctx[2:]; w.emit("fsplit ! $\n"); w.give(1,["res","more"]); w.to(["out"]); w.emit("split ! $ "); w.give(1,["toks","own"]); w.to(["own"])
+    w.emit(Ans.peeks("m","(v ∷ [])")+"(λ is. drop ! $ split ! $\n"); w.give(2,["tok","true"])
+CARRIED="(ws .0 ≡ changed h x .next) × (m ≡ x .answer)"
+ENDS="d .0 ∙ ap (λ (u : Done). u .next) e, d .1 ∙ ap (λ (u : Done). u .answer) e"
+def takes_control(w,i):
+    """`let i = c.control`"""
+    opens(w); w.nl(); w.to(["cell"]); w.emit("use1 W ("+FAT("h")+") (W .laws .raw-at fullShare T′.mir b o (mach h)) $\n")
+    w.assign(f"(of-opd ! (load ! (from ! (hop ! (look ! {w.cell(1)} refl) (fld ! refl (stop !)))) (look-in ! {w.at('cell')} (sub ! 0 refl (whole !)))))",i,Ctl.typed("h .control","control-is h was"))
+    w.to(["cell"]); w.emit(raws("h")+"\n"); closes(w)
+def control_of(i): return f"assignᴹ (placeᴹ {i} []) (rvOpd (copyᴹ (placeᴹ 1 (deref T′.mir ∷ fieldᴹ 0 ∷ []))))"
+
+def write():
+    con="controller"; windows=Callee("windows",con,"Controller.window_row"); lows=Callee("lows",con,"Controller.write_change"); controls=Callee("controls",con,"Controller.control_write"); carries=Callee("carries",crate,"carry"); CS=[windows,lows,controls,carries]
+    byte="tyInt w8"; ref="tyRef erased mut rec-ty"
+    LT=[Ans.mir(),"tyRef (named 0) mut rec-ty",byte,byte,Ctl.mir(),"tyInt w64",Row.mir(),"out-ty",Ctl.mir(),"out-ty","tyBool",Ans.mir(),"tyInt w64","tyPtr","tyPtr",Row.mir(),ref,ref]; N=len(LT)
+    L=Look(5,6,12,13,14,15); ANS=11; CELLS=[f"_{i}" for i in range(N)]; DIES=[f"d{i}" for i in range(N)]; ALL=CELLS+DIES
+    val={1:"vptr b o",2:"vint w8 n",3:"vint w8 u"}; had=["rec","tok"]; HELD={"rec":"‵ Rec","tok":TOK}; lemmas=[]
+    def lemma(com,name,pre,lhs,code,q,start,body):
+        lemmas.append(f"      {com}\n      {name} : {pre}Sq W {items(*start)} (runs C Λ En {code} ({q}))\n      {lhs} =\n          {body.strip()}\n")
+    RET="atRet En Post"; NEXT="anyQ Next"; GOAL="doneOf (stepOf h (writeStep n u))"
+    # ---- the start
+    w=Walk(8); w.ctx=["toks","owns"]; w.emit("split ! $ "); w.ctx=["tok","true","owns"]; w.to(["owns"]); w.emit("fsplit ! $ move ! (1 ∷ []) $ "); w.give(1,["owns","rec"]); w.emit("fsplit ! $ drop ! $ fsplit ! $ drop ! $ "); w.keep(had); w.nl()
+    FV=lst(["vptr b o","vint w8 n","vint w8 u"]); enters(w,FV,N,["(tt, tt)",typed("n","u8","n-fits"),typed("u","u8","u-fits")])
+    w.to(had+ALL); w.emit("tested "+" ".join(f"l{i}" for i in range(N))); walk=w.text(); base=list(w.ctx); w.ind=10
+    # ---- the return
+    end=["res","tok"]; ctx=end+ALL; w.ctx=list(ctx); kept=[1,2,3,10]
+    start=(ctx,LT,{**{i:f"y{i}" for i in kept},ANS:Ans.val("m")},{"res":"‵ (fres γ (T.the-row .coded .code c))","tok":TOK})
+    w.copy(ANS,0,Ans.typed("m","g")); w.emit(f"returns ! (look ! {w.cell(0)} refl) $ "); w.free(N,[0]+kept+[ANS]); w.keep(end); w.emit("by ! (exits c m e g)")
+    lemma("-- the `return`","answered",us(kept)+f"(c : Controller) (m : Answer) → Says c m → {Ans.is_('m')} → ","answered c m e g","pieces.t-3",RET,start,w.text())
+    # ---- a change is carried out
+    HAS=["obs","bor","tok"]; ctx=HAS+ALL; held={"obs":OBS("h"),"bor":BOR,"tok":TOK}
+    def carried(tag,out,ref,ys):
+        w.ctx=list(ctx); start=(ctx,LT,{**val,**{i:f"y{i}" for i in ys},out:Cha.val("x")},held)
+        lends(w,carries,ref,"(to-carry x)","(asked-carry x x-is)","(args-carry x)",[out],CARRIED,last=True)
+        w.land(ANS,LT[ANS],Ans.typed("m","is"),Ans.same("m","is"),last=True)
+        w.emit(f"exec ! C Λ En pieces.t-3 ({RET}) $ "+"".join(f"forget ! {w.cell(i)} refl $ " for i in sorted([i for i in ys if i!=10]+[out,ref]))); w.nl(); w.keep(end+ALL); w.emit(f"answered (ws .0) m ({ENDS}) (answer-is m _ is)")
+        lemma("-- the change is carried out, the record being lent again at its own lifetime",f"carried-{tag}",us(ys)+f"(x : Change) → {Cha.is_('x')} → changed h x ≡ {GOAL} → ",f"carried-{tag} x x-is e",f"(carrying {ref} {out})",NEXT,start,w.text())
+    def changing(fn,k,ask,out,ops,fact,end):
+        w.emit(f"use0 W (raw ({fn.at()} .pre {par('to-'+fn.a+k)})) {ask} $\n"); w.give(0,["pre"])
+        called(w,fn,par("to-"+fn.a+k),par("args-"+fn.a+k),[w.load(i) for i in ops],"Change","x","v","tt","‵ ftrue",Cha.row(),fact,"g"); kept_as(w,Cha,"x"); changes(w,LT,ctx,out,end)
+    # ---- below $50: the row of the window is looked at
+    carried("low",7,16,[10,4]+[i for i in L.all()])
+    at="i ≡ windowRow (h .control) (registerAt n)"
+    FACT=f"(c : Controller) → c .control ≡ h .control → length (c .rows) ≡ 16 → {ROW} ≡ rowAt (c .rows) (windowRow (h .control) (registerAt n)) → changed c x ≡ doneOf (stepOf c (writeStep n u))"
+    looks(lemma,w,LT,ctx,{**val,4:Ctl.val("h .control")},held,[10],L,codes("low"),NEXT,"low",f"→ {Ctl.is_('h .control')} → ","d-is",lambda w:indexed(w,windows,"to-windows","(asked-windows d-is)","(h .control, (n, tt))",lambda:[w.load(4),w.load(2)],at),at,"(window-below (h .control) (registerAt n) i p)",
+      lambda w:changing(lows,f" ({ROW})",f"(asked-lows ({ROW}) d-is k-is)",7,[4,2,3,6],FACT,"carried-low x (change-is x _ is) (g h refl sixteen (ap (rowAt (h .rows)) p))"))
+    w.ctx=list(base); start=(base,LT,{**val,10:"y10"},HELD); takes_control(w,4); w.keep(ctx); w.emit("finding-low (control-is h was)")
+    lemma("-- a register below $50","on-low",us([10])+"→ ","on-low","code-low",NEXT,start,w.text())
+    # ---- a control register
+    carried("control",9,17,[10,8]); w.ctx=list(base); takes_control(w,8); w.keep(ctx)
+    changing(controls,"","(asked-controls (control-is h was))",9,[8,2,3],"(c : Controller) → c .control ≡ h .control → changed c x ≡ doneOf (stepOf c (writeStep (0x50 + (n - 0x50)) u))","carried-control x (change-is x _ is) (g h refl ∙ ap (λ (k : ℕ). doneOf (stepOf h (writeStep k u))) (let above = nltb→le n 0x50 t in omega arith))")
+    lemma("-- a control register","on-control",us([10])+"→ Holds (not (ltb n 0x50)) → ","on-control t","code-control",NEXT,start,w.text())
+    # ---- the test
+    w.ctx=list(base); start=(base,LT,dict(val),HELD); w.assign(f"(bin ! {w.load(2)} (lit ! tt) tt)",10,"(tt, tt)"); w.emit(f"first ! $ branches ! {w.load(10)}\n(λ t. on-low)\n(λ t. on-control t)")
+    lemma("-- the address is tested","tested","","tested","pieces.t-1",RET,start,w.text())
+    # ---- what is asked, and what is had at exit
+    w=Walk(6); w.ctx=list(end); w.emit("nothing ! $ "); w.give(0,["t"]); w.to(["tok","t"]); w.emit("join ! $ frame ! $\n"); w.give(2,[])
+    w.emit("nothing ! $ "+owned("u","u8")+owned("n","u8")); w.give(0,["X"]); w.to(["res","X"]); w.emit("fjoin ! $ frame ! $ "+Ans.owned("m","g")+"done !"); exits=w.text()
+    CLOSE="move ! (1 ∷ 0 ∷ []) $ join ! $ nothing ! $ move ! (1 ∷ 0 ∷ []) $ join ! $ done !"
+    bound="(((κ, tt), (q, tt), tt, a, at), tt)"; nl=chr(10); cval=f"{Ctl.val('h .control')} ∷ []"
+    put(f"""-- `lent::write` meets its contract: a walk of its MIR. The borrow is opened for the control state, and below $50 again for the one row that the window shows; the change goes on to `carry` with the reference at its own lifetime, which
+-- gives back what says its last value. All that the proof knows of the functions called is that they meet their contracts. Written by tools/gen_lent.py.
+{HEAD}
+use Prim.Native.Nat.{{_-_}}
+use native.Mathlib.Omega.{{arith}}
+use lib.Dec.{{ltb, nltb→le}}
+use Rattle.rules.specs.Steps.{{write as writeStep}}
+use Rattle.rules.specs.Registers.{{registerAt}}
+use Rattle.controller.specs.declared.Done.{{Done}}
+use Rattle.controller.specs.Session.{{stepOf}}
+use Rattle.controller.specs.Code.{{doneOf, changed}}
+{LOOK}
+{nl.join(d.uses() for d in (Con,Cha,Ctl,Row,Ans))}
+{nl.join(c.uses() for c in CS)}
+{THIS}
+
+abbrev Arg : Type 0
+Arg = RefT Controller × (ℕ × (ℕ × Unit {{0}}))
+
+abbrev stayed : Stays (this.ended .signature .params) (this.ended .kept)
+stayed = (gave-ref (0 ∷ []) tt (plain (λ _. T.the-row)), (stay-none (λ _. u8) yes, (stay-none (λ _. u8) yes, tt)))
+
+-- the contracts that the proof cites
+{nl.join(c.contract() for c in CS)}
+{OUT_TY}
+{CHANGE_IS.split(nl+nl+"ruling-is")[0]}
+
+answer-is : (x : Answer) (vs : List Val) → Is {Ans.row()} x vs → {Ans.is_("x")}
+answer-is x vs g = subst (Is {Ans.row()} x) ({Ans.tells()} x vs g) g
+
+-- the code of the two ways
+{CARRYING(ANS)}
+{L.code("low",f"callᴹ #windows ({cp(4)} ∷ {cp(2)} ∷ [])",f"seqᴹ (callᴹ #lows ({cp(4)} ∷ {cp(2)} ∷ {cp(3)} ∷ {cp(6)} ∷ []) (placeᴹ 7 [])) (carrying 16 7)")}
+abbrev code-low : Bodyᴹ
+code-low = seqᴹ ({control_of(4)}) code-finding-low
+
+abbrev code-control : Bodyᴹ
+code-control = seqᴹ ({control_of(8)}) (seqᴹ (callᴹ #controls ({cp(8)} ∷ {cp(2)} ∷ {cp(3)} ∷ []) (placeᴹ 9 [])) (carrying 17 9))
+
+module _ {G} (W : Given 𝓤 H A) {AM} (κ : Lft) (q : Share) (b o : ℕ) (γ : GName) (h : Controller) (n u : ℕ) (n-fits : n < 2 ^ 8) (u-fits : u < 2 ^ 8) where
+  abbrev rec : RefT Controller
+  rec = record {{ ptr = (b, o); name = γ; now = h }}
+
+  abbrev Rec : Fml
+  Rec = MutRef (named 0) κ T.the-row .own rec (vptr b o ∷ [])
+
+  abbrev a : Arg
+  a = (rec, (n, (u, tt)))
+
+  abbrev at : List Val × (List Val × (List Val × Unit {{0}}))
+  at = (vptr b o ∷ [], (vint w8 n ∷ [], (vint w8 u ∷ [], tt)))
+
+  abbrev Post : Val → SProp 𝓤
+  Post = walkOf 𝓤 H A this.ended stayed (this.clauses 𝓤 H A at-mem run) .post {bound}
+
+  abbrev Says : Controller → Answer → Type 0
+  Says c m = (c ≡ {GOAL} .next) × (m ≡ {GOAL} .answer)
+
+  -- what is had at exit
+  abbrev Had : Controller → List (Item 𝓤)
+  Had c = ‵ (fres γ (T.the-row .coded .code c)) ∷ {TOK} ∷ []
+
+  exits : (c : Controller) (m : Answer) → Says c m → {Ans.is_("m")} → ent 𝓤 (⋆ 𝓤 H A (Had c)) (Post ({Ans.val("m")}))
+  exits c m e g =
+      qed W (Had c) ∵
+      suffices ! _ (ends-at 𝓤 H A this.ended stayed (this.clauses 𝓤 H A at-mem run) W {bound} ({Ans.val("m")}) m (c, (tt, (tt, tt))) (tt, (tt, (tt, tt)))) $ says ! e $
+      {exits}
+
+  -- what the triples bind outside, and what they ask
+  abbrev to-windows : {windows.at()} .Ghost
+  to-windows = ((tt, tt, tt, (h .control, (n, tt)), ({cval}, (vint w8 n ∷ [], tt))), tt)
+
+  asked-windows : {Ctl.is_("h .control")} → ent 𝓤 (emp 𝓤) ({windows.at()} .pre to-windows)
+  asked-windows d-is = qed W [] ∵ nothing ! $ nothing ! $ {owned("n","u8")}{Ctl.owned("h .control","d-is")}fjoin ! $ {CLOSE}
+
+  abbrev args-lows : Contents → Control × (ℕ × (ℕ × (Contents × Unit {{0}})))
+  args-lows k = (h .control, (n, (u, (k, tt))))
+
+  abbrev to-lows : Contents → {lows.at()} .Ghost
+  to-lows k = ((tt, tt, tt, args-lows k, ({cval}, (vint w8 n ∷ [], (vint w8 u ∷ [], ({Row.val("k")} ∷ [], tt))))), tt)
+
+  asked-lows : (k : Contents) → {Ctl.is_("h .control")} → {Row.is_("k")} → ent 𝓤 (emp 𝓤) ({lows.at()} .pre (to-lows k))
+  asked-lows k d-is k-is = qed W [] ∵ nothing ! $ nothing ! $ {Row.owned("k","k-is")}fjoin ! $ {owned("u","u8")}{owned("n","u8")}{Ctl.owned("h .control","d-is")}fjoin ! $ {CLOSE}
+
+  abbrev args-controls : Control × (ℕ × (ℕ × Unit {{0}}))
+  args-controls = (h .control, (n, (u, tt)))
+
+  abbrev to-controls : {controls.at()} .Ghost
+  to-controls = ((tt, tt, tt, args-controls, ({cval}, (vint w8 n ∷ [], (vint w8 u ∷ [], tt)))), tt)
+
+  asked-controls : {Ctl.is_("h .control")} → ent 𝓤 (emp 𝓤) ({controls.at()} .pre to-controls)
+  asked-controls d-is = qed W [] ∵ nothing ! $ nothing ! $ {owned("u","u8")}{owned("n","u8")}{Ctl.owned("h .control","d-is")}fjoin ! $ {CLOSE}
+
+{ask_carry(carries)}
+  module _ (C : Calls 𝓤 H) (Λ : Loops 𝓤 H) (fm : FmC 𝓤 H (W .laws) C) {" ".join(f"(known-{c.a} : {c.triple('C')})" for c in CS)} where
+    module _ ({" ".join(f"l{i}" for i in range(N))} : ℕ) where
+{locals_(LT,6)}
+      -- what is left once a way has ended
+      abbrev Next : Out → SProp 𝓤
+      Next = afterSeq 𝓤 H (Wp 𝓤 H C Λ En pieces.t-3 (atReturn 𝓤 H En Post)) (atReturn 𝓤 H En Post)
+
+{nl.join(lemmas)}
+    walk : ent 𝓤 (onEntry 𝓤 H A this.signature (κ, tt) (q, tt) a at) (WpFn 𝓤 H C Λ code.function {FV} Post)
+    walk =
+        qed W (({TOK} ⊛ ‵ ftrue) ∷ ‵ (owns (MutRef (named 0) κ T.the-row ∷ u8 ∷ u8 ∷ []) a at) ∷ []) ∵ {walk}
+""")
+    pa=lambda i:"a"+path(i)
+    put(tail(CS,"write",1,["ptr-vals","uint-vals w8","uint-vals w8"],["mut-tells (named 0) (κs .0) T.the-row","uint-tells w8","uint-tells w8"],
+      [f"(κs .0) (qs .0) ({pa(0)} .ptr .0) ({pa(0)} .ptr .1) ({pa(0)} .name) ({pa(0)} .now) ({pa(1)}) ({pa(2)}) (are{path(1)} .1) (are{path(2)} .1) C Λ fm {known(CS)}"],
+      ["goes-gave-ref 𝓤 H A W 1 0 tt (plain (λ _. T.the-row))","goes-none 𝓤 H A W 1 (λ _. u8) yes (λ κs x f. refl)","goes-none 𝓤 H A W 1 (λ _. u8) yes (λ κs x f. refl)"]))
+
+def ask_carry(carries): return ask_lent(carries,"carry",[("x",Cha)])
+def ask_lent(fn,low,vars):
+    """what a function that is lent the record asks, the reference being given in its parts; vars: its other parameters"""
+    w=Walk(6); w.ctx=["obs","bor","tok"]; w.emit("nothing ! $ "); w.give(0,["t"]); w.to(["tok","t"]); w.emit("join ! $ nothing ! $ "); w.give(2,["X","t"]); w.emit("".join(owned(n,k) for n,k in reversed(vars))); w.to(["obs","bor","X"])
     w.emit("feqI ! (List Val) (vptr b o ∷ []) (vptr b o ∷ []) refl $ fjoin3 ! $ fjoin ! $ move ! (1 ∷ 0 ∷ []) $ join ! $ nothing ! $ move ! (1 ∷ 0 ∷ []) $ join ! $ done !")
-    return f"""  abbrev args-carry : Change → RefT Controller × (Change × Unit {{0}})
-  args-carry x = (rec, (x, tt))
+    ns=" ".join(n for n,k in vars); bs="".join(f"{den(k)} → " for n,k in vars); ty=" × (".join(["RefT Controller"]+[den(k) for n,k in vars])+" × Unit {0}"+")"*len(vars); held=f"({OBS('h')} ∷ {BOR} ∷ {TOK} ∷ [])"
+    return f"""  abbrev args-{low} : {bs}{ty}
+  args-{low} {ns} = {tup(["rec"]+[n for n,k in vars])}
 
-  abbrev to-carry : Change → {carries.at()} .Ghost
-  to-carry x = (((κ, tt), (q, tt), tt, args-carry x, (vptr b o ∷ [], ({Cha.val("x")} ∷ [], tt))), tt)
+  abbrev to-{low} : {bs}{fn.at()} .Ghost
+  to-{low} {ns} = (((κ, tt), (q, tt), tt, args-{low} {ns}, {tup(["vptr b o ∷ []"]+[value(n,k)+" ∷ []" for n,k in vars])}), tt)
 
-  asked-carry : (x : Change) → {Cha.is_("x")} → ent 𝓤 (⋆ 𝓤 H A ({OBS("h")} ∷ {BOR} ∷ {TOK} ∷ [])) ({carries.at()} .pre (to-carry x))
-  asked-carry x x-is = qed W ({OBS("h")} ∷ {BOR} ∷ {TOK} ∷ []) ∵ {w.text()}
+  asked-{low} : {"".join(f"({n} : {den(k)}) " for n,k in vars)}→ {"".join(fact(n,k)+" → " for n,k in vars)}ent 𝓤 (⋆ 𝓤 H A {held}) ({fn.at()} .pre (to-{low} {ns}))
+  asked-{low} {ns} {" ".join(n+("-fits" if k=="u8" else "-is") for n,k in vars)} = qed W {held} ∵ {w.text()}
+"""
+
+def CARRYING(ans): return f"""abbrev carrying : ℕ → ℕ → Bodyᴹ
+carrying r k = seqᴹ (assignᴹ (placeᴹ r []) (addrOf (placeᴹ 1 (deref T′.mir ∷ [])))) (callᴹ #carries (copyᴹ (placeᴹ r []) ∷ copyᴹ (placeᴹ k []) ∷ []) (placeᴹ {ans} []))
 """
 
 class Arm:
-    """an arm of the match: its variant, the variables of its pattern, the function that it calls, and its step; rules: the function gives a ruling; window: it is given the control state and a row"""
-    def __init__(self,con,vars,home,p,step,frame=False,room=False,rules=False,window=False):
-        self.con=con; self.low=con.lower() if window or room else p.split(".")[-1].replace("plan_",""); self.window=window; self.vars=vars; self.fn=Callee(self.low+"s",home,p); self.step=step; self.frame=frame; self.room=room; self.rules=rules; self.reads=con=="Read"
+    """an arm of the match: its variant, the variables of its pattern, the function that it calls, and its step; rules: the function gives a ruling; window: it is given the control state and a row; lent: it is lent the record"""
+    def __init__(self,con,vars,home,p,step,frame=False,room=False,rules=False,window=False,lent=False):
+        self.lent=lent; self.con=con; self.low=con.lower() if window or room else p.split(".")[-1].replace("plan_",""); self.window=window; self.vars=vars; self.fn=Callee(self.low+"s",home,p); self.step=step; self.frame=frame; self.room=room; self.rules=rules; self.reads=con=="Read"
     def names(self): return [n for n,k in self.vars]
     def pat(self): return par(" ".join([self.con]+self.names()))
     def binders(self): return "".join(f"({n} : {den(k)}) " for n,k in self.vars)
@@ -639,7 +817,7 @@ owned=lambda n,k:(f"owned ! u8 (Is u8) (uint-makes 𝓤 H A W w8) {n} _ (refl, {
 def step():
     Syn=Decl("SyncKind","Sync-row","enum","rules",False); Syn.den="SyncKind"; Fau=Decl("Fault","Fault-row","enum","rules",False); Fau.den="FaultKind"
     con="controller"; plan=lambda x:"Controller.plan_"+x
-    ARMS=[Arm("Reset",[],con,plan("reset"),"reset"),Arm("Read",[("n","u8")],con,"Controller.read_answer","read n",window=True),Arm("Write",[("n","u8"),("u","u8")],con,"Controller.write_change","write n u",window=True),Arm("Sync",[("k",Syn)],con,plan("sync"),"sync k"),Arm("SyncDue",[],con,plan("due"),"syncDue"),
+    ARMS=[Arm("Reset",[],con,plan("reset"),"reset"),Arm("Read",[("n","u8")],con,"Controller.read_answer","read n",window=True),Arm("Write",[("n","u8"),("u","u8")],crate,"write","write n u",lent=True),Arm("Sync",[("k",Syn)],con,plan("sync"),"sync k"),Arm("SyncDue",[],con,plan("due"),"syncDue"),
       Arm("Slot",[("n","u8")],con,"Controller.slot_ruling","slot n room",room=True,rules=True),Arm("Frame",[("good","bool")],crate,"ruling","frameStep good (bytesIn f)",frame=True,rules=True),Arm("Fault",[("k",Fau)],con,plan("fault"),"fault k"),Arm("Timeout",[],con,plan("timeout"),"timeout")]
     carries=Callee("carries",crate,"carry"); frameds=Callee("frameds",crate,"framed"); windows=Callee("windows",con,"Controller.window_row"); filled=Callee("filled",con,"Controller.slot_change"); CS=[a.fn for a in ARMS]+[rows,windows,frameds,filled,carries]
     # ---- the locals, as the arms have them: their variables and the change, the answer, and what the calls want
@@ -651,10 +829,10 @@ def step():
         if a.rules: a.r=local(Rul.mir())
         if a.window: a.d=local(Ctl.mir())
         if a.rules or a.window: a.i=local("tyInt w64"); a.row=local(Row.mir())
-        if not a.reads: a.out=local("out-ty")
+        if not (a.reads or a.lent): a.out=local("out-ty")
     ANS=local(Ans.mir())
     for a in ARMS:
-        if not a.window: a.copy=local(Con.mir())
+        if not (a.window or a.lent): a.copy=local(Con.mir())
         if a.rules or a.window: a.L=Look(a.i,a.row,local("tyInt w64"),local("tyPtr"),local("tyPtr"),local(Row.mir()))
         if a.room: a.ptr=local("tyRef erased mut (tyInt w8)"); a.agg=local("sliceTy (tyRef erased mut (tyInt w8))")
         if not a.reads: a.ref=local(ref)
@@ -693,19 +871,20 @@ def step():
     # ---- the arms
     HAS=["obs","bor","tok","t-room","fin"]
     for a in ARMS:
+        if a.lent:
+            # the function is lent the record at its own lifetime; the room is not passed
+            w.ctx=list(base); start=(base,LT,{**val,2:"y2",**{i:value(n,k) for i,(n,k) in zip(a.locs,a.vars)}},HELD); w.to(["rec"]); w.emit("fsplit3 ! $ drop ! $ "); w.give(1,["obs","bor"]); unpassed(w)
+            lends(w,a.fn,a.ref,a.to(),par(" ".join([f"asked-{a.low}"]+a.names()+a.given())),a.args(),a.locs,f"(ws .0 ≡ next ({a.step})) × (m ≡ answer ({a.step}))",last=True); w.land(ANS,LT[ANS],Ans.typed("m","is"),Ans.same("m","is"),last=True)
+            ended(sorted(a.locs+[a.ref]),"(ws .0)","m","room","(d .0 ∙ ap next s, d .1 ∙ ap answer s, z) (answer-is m _ is) refl")
+            lemma(f"-- {a.con}",f"on-{a.low}",us([2])+a.binders()+"→ "+a.facts()+f"{a.step} ≡ {STEP} → room ≡ roomFor h call room → ",f"on-{a.low} {' '.join(a.names()+a.given())} s z",f"code-{a.low}",NEXT,start,w.text()); continue
         mine=a.locs+([] if a.reads else [a.out])+([a.d] if a.window else [a.copy])+([a.ptr,a.agg] if a.room else [])+([a.r] if a.rules else [])+(a.L.all() if a.rules or a.window else [])
         given=" ".join(a.names()+a.given())
         if not a.reads:
             # the change is carried out, the record being lent again at its own lifetime
             ctx=HAS+ALL; w.ctx=list(ctx); ys=[2]+[i for i in mine if i!=a.out]
             start=(ctx,LT,{**val,**{i:f"y{i}" for i in ys},a.out:Cha.val("x")},{"obs":OBS("h"),"bor":BOR,"tok":TOK,"t-room":TROOM,"fin":FIN})
-            w.again_ref(1,a.ref); w.to(["obs","bor","tok"])
-            w.emit(f"group ! 3 $ use1 W (raw ({carries.at()} .pre (to-carry x))) (asked-carry x x-is) $\n"); w.give(3,["pre"])
-            called(w,carries,"(to-carry x)","(args-carry x)",[w.load(a.ref),w.load(a.out)],"Answer","m","v","(κ, tt)",f"({TOK} ⊛ ‵ ftrue)",Ans.row(),"(ws .0 ≡ changed h x .next) × (m ≡ x .answer)","d",last=True)
-            w.ctx=["lasts","out"]+w.ctx[2:]; w.emit("fsplit ! $\n"); w.give(1,["res","more"]); w.to(["out"]); w.emit("split ! $ "); w.give(1,["toks","own"]); w.to(["own"])
-            w.emit(Ans.peeks("m","(v ∷ [])")+"(λ is. drop ! $ split ! $\n"); w.give(2,["tok","true"])
-            w.land(ANS,LT[ANS],Ans.typed("m","is"),Ans.same("m","is"),last=True)
-            ended(sorted(mine+[a.ref]),"(ws .0)","m","zs","(d .0 ∙ ap (λ (u : Done). u .next) e, d .1 ∙ ap (λ (u : Done). u .answer) e, z) (answer-is m _ is) l")
+            lends(w,carries,a.ref,"(to-carry x)","(asked-carry x x-is)","(args-carry x)",[a.out],CARRIED,last=True); w.land(ANS,LT[ANS],Ans.typed("m","is"),Ans.same("m","is"),last=True)
+            ended(sorted(mine+[a.ref]),"(ws .0)","m","zs",f"({ENDS}, z) (answer-is m _ is) l")
             lemma(f"-- what `{a.con}` changes is carried out",f"carried-{a.low}",us(ys)+f"(x : Change) → {Cha.is_('x')} → changed h x ≡ doneOf (stepOf h ({STEP})) → (zs : List ℕ) → zs ≡ roomFor h call room → length zs ≡ length room → ",f"carried-{a.low} x x-is e zs z l",f"(carrying {a.ref} {a.out})",NEXT,start,w.text())
         held={"obs":OBS("h"),"bor":BOR,"tok":TOK,"t-room":TROOM,"fin":FIN.replace("zs","room"),"room":"‵ Room′"}; k_=f"r ({ROW})"; SAYS=f"carried-{a.low} x (change-is x _ is) (d h sixteen (ap (rowAt (h .rows)) p) ∙ e)"
         if a.frame:
@@ -737,9 +916,7 @@ def step():
                 else: changes(w,LT,HAS+ALL,a.out,f"carried-{a.low} x (change-is x _ is) ({G_} ∙ ap (λ (s : Step). doneOf (stepOf h s)) s) room z refl")
             looks(lemma,w,LT,HAS+ALL,known_,held,[2],a.L,codes(a.low),NEXT,a.low,hyp,names,lambda w:indexed(w,windows,"(to-windows n)","(asked-windows n n-fits d-is)","(h .control, (n, tt))",lambda:[w.load(a.d),w.load(a.locs[0])],at),at,"(window-below (h .control) (registerAt n) i p)",make)
             w.ctx=list(base); start=(base,LT,{**val,2:"y2",**{i:value(n,k) for i,(n,k) in zip(a.locs,a.vars)}},HELD)
-            opens(w); w.nl(); w.to(["cell"]); w.emit("use1 W ("+FAT("h")+") (W .laws .raw-at fullShare T′.mir b o (mach h)) $\n")
-            w.assign(f"(of-opd ! (load ! (from ! (hop ! (look ! {w.cell(1)} refl) (fld ! refl (stop !)))) (look-in ! {w.at('cell')} (sub ! 0 refl (whole !)))))",a.d,Ctl.typed("h .control","control-is h was"))
-            w.to(["cell"]); w.emit(raws("h")+"\n"); closes(w); unpassed(w); w.keep(HAS+ALL); w.emit(f"finding-{a.low} {given} (control-is h was) s z")
+            takes_control(w,a.d); unpassed(w); w.keep(HAS+ALL); w.emit(f"finding-{a.low} {given} (control-is h was) s z")
             lemma(f"-- {a.con}",f"on-{a.low}",us([2])+a.binders()+"→ "+a.facts()+f"{a.step} ≡ {STEP} → room ≡ roomFor h call room → ",f"on-{a.low} {given} s z",f"code-{a.low}",NEXT,start,w.text()); continue
         # the borrow is opened for the copy, and the function is called
         w.ctx=list(base); start=(base,LT,{**val,2:"y2",**{i:value(n,k) for i,(n,k) in zip(a.locs,a.vars)}},HELD)
@@ -775,6 +952,7 @@ def step():
     w.emit("nothing ! $ "); w.give(0,["X"]); w.to(["fin","X"]); w.emit("fjoin ! $ "); w.give(2,["X"]); w.emit(Fra.owned("f","f-is")+"fjoin ! $ "+Cal.owned("call","call-is")+"fjoin ! $ "); w.to(["res","X"]); w.emit("fjoin ! $ frame ! $ "+Ans.owned("m","g")+"done !"); exits=w.text()
     CLOSE="move ! (1 ∷ 0 ∷ []) $ join ! $ nothing ! $ move ! (1 ∷ 0 ∷ []) $ join ! $ done !"
     def asks(a):
+        if a.lent: return ask_lent(a.fn,a.low,a.vars)
         if a.window:
             ty=" × (".join(["Control"]+[den(k) for n,k in a.vars]+["Contents","Unit {0}"])+")"*(len(a.vars)+2); bs="".join(f"{den(k)} → " for n,k in a.vars)+"Contents → "; ns=" ".join(a.names()+["k"])
             own="".join(owned(n,k) for n,k in reversed(a.vars))
@@ -803,6 +981,7 @@ def step():
     w=Walk(6); w.ctx=["t-room","room"]; w.emit("nothing ! $ "); w.give(0,["t"]); w.to(["t-room","t"]); w.emit("join ! $ nothing ! $ "); w.give(2,["X","t"]); w.to(["room","X"]); w.emit(f"fjoin ! $ {Row.owned('k','k-is')}fjoin ! $ {Rul.owned('r','r-is')}fjoin ! $ {CLOSE}"); ask_filled=w.text(); WITH_ROOM=f"({TROOM} ∷ ‵ Room′ ∷ [])"
     GL="(κ, (κ-room, tt))"; GQ="(q, (q-room, tt))"; bound=f"(({GL}, {GQ}, tt, a, at), tt)"
     def code(a):
+        if a.lent: return f"abbrev code-{a.low} : Bodyᴹ\ncode-{a.low} = seqᴹ (assignᴹ (placeᴹ {a.ref} []) (addrOf (placeᴹ 1 (deref T′.mir ∷ [])))) (callᴹ #{a.fn.a} ({' ∷ '.join([cp(i) for i in [a.ref]+a.locs]+['[]'])}) (placeᴹ {ANS} []))\n"
         if a.window:
             made=f"callᴹ #{a.fn.a} ({' ∷ '.join([cp(i) for i in [a.d]+a.locs+[a.row]]+['[]'])}) (placeᴹ {ANS if a.reads else a.out} [])"
             return a.L.code(a.low,f"callᴹ #windows ({cp(a.d)} ∷ {cp(a.locs[0])} ∷ [])",made if a.reads else f"seqᴹ ({made}) (carrying {a.ref} {a.out})")+f"\nabbrev code-{a.low} : Bodyᴹ\ncode-{a.low} = seqᴹ (assignᴹ (placeᴹ {a.d} []) (rvOpd (copyᴹ (placeᴹ 1 (deref T′.mir ∷ fieldᴹ 0 ∷ []))))) code-finding-{a.low}\n"
@@ -859,9 +1038,7 @@ taken i k j rest = seqᴹ (assignᴹ (placeᴹ i []) (rvOpd (copyᴹ (placeᴹ 2
 abbrev copied : ℕ → Bodyᴹ → Bodyᴹ
 copied i rest = seqᴹ (assignᴹ (placeᴹ i []) (rvOpd (copyᴹ (placeᴹ 1 (deref T′.mir ∷ []))))) rest
 
-abbrev carrying : ℕ → ℕ → Bodyᴹ
-carrying r k = seqᴹ (assignᴹ (placeᴹ r []) (addrOf (placeᴹ 1 (deref T′.mir ∷ [])))) (callᴹ #carries (copyᴹ (placeᴹ r []) ∷ copyᴹ (placeᴹ k []) ∷ []) (placeᴹ {ANS} []))
-
+{CARRYING(ANS)}
 {nl.join(code(a) for a in ARMS)}
 {nl.join(armcode(key,a) for key,a in enumerate(ARMS))}
 abbrev the-match : Bodyᴹ
@@ -964,5 +1141,5 @@ module _ {G} (W : Given 𝓤 H A) {AM} (κ κ-room : Lft) (q q-room : Share) (b 
     put(tail(CS,"step",2,["ptr-vals",Cal.vals(),Fra.vals(),"slice-vals"],["mut-tells (named 0) (κs .0) T.the-row",Cal.tells(),Fra.tells(),"mut-slice-tells (named 1) (κs .1 .0) u8"],
       [kp(0),kp(1),kp(0,"qs"),kp(1,"qs"),f"({pa(0)} .ptr .0) ({pa(0)} .ptr .1) ({pa(0)} .name) ({pa(0)} .now) ({pa(2)}) ({pa(3)} .ptr .0) ({pa(3)} .ptr .1) ({pa(3)} .name) ({pa(3)} .now) (are{path(2)}) (are{path(3)} .0 .1) C Λ fm {known(CS)} ({pa(1)}) (are{path(1)})"],
       ["goes-gave-ref 𝓤 H A W 2 0 tt (plain (λ _. T.the-row))",f"goes-none 𝓤 H A W 2 (λ _. {Cal.row()}) yes (λ κs x f. refl)",f"goes-none 𝓤 H A W 2 (λ _. {Fra.row()}) yes (λ κs x f. refl)","goes-gave-slice 𝓤 H A W 2 1 tt (plain (λ _. u8))"]))
-{"carry":carry,"frame":frame,"step":step}[FN]()
+{"carry":carry,"frame":frame,"write":write,"step":step}[FN]()
 print(lean("\n".join(TEXT)))

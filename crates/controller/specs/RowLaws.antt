@@ -1,13 +1,11 @@
 -- The searches over the buffers' bytes are those over their heads.
-use mathlib.Core.Path.{_≡_, refl, sym, ap, _∙_}
-use Prim.Native.Nat.{ℕ, _<_}
-use mathlib.Core.Bool.{Bool, false, _&&_, not}
+use mathlib.Core.Path.{_≡_, refl, ap}
+use Prim.Native.Nat.{ℕ}
 use mathlib.Core.List.{List}
 use native.Mathlib.Omega.{arith}
 use lib.ListN.{getD}
-use lib.Dec.{eqb}
-use Rattle.masks.specs.Bits.{bitOf, maskOf, highest}
-use Rattle.masks.specs.Laws.{bit-none, bit-mask, mask-of, same-mask}
+use Rattle.masks.specs.Bits.{maskOf, highest}
+use Rattle.masks.specs.Laws.{bit-mask, same-mask}
 use Rattle.masks.specs.Search.{lowest-ext, highest-ext}
 use Rattle.contents.specs.declared.Contents.{Contents}
 use Rattle.rows.specs.Search.{carriesAt, namedAt, isNamedIn, lowestWith, highestWith, namedOf}
@@ -40,13 +38,3 @@ module _ (c : Control) (rows : List Contents) (m : ℕ) (full : m ≡ maskOf (is
   unfolding namedOf isNamedIn namedAt isReady isNamed
   ready-rows =
       same-mask (isNamedIn rows m) (isReady c (heads rows)) (λ n h. simp (full, bit-mask (isFullTransmit c) n h, ident-same rows n))
-
-  -- where no buffer is full, none is ready
-  pub none-ready : m ≡ 0 → 0 ≡ maskOf (isReady c (heads rows))
-  unfolding isReady
-  none-ready z =
-      mask-of 0 (isReady c (heads rows)) (omega arith)
-      (λ n h. bit-none n ∙ ap (λ (t : Bool). t && isNamed (heads rows) n) (sym (empty n h)))
-    where
-      empty : (n : ℕ) → n < 16 → isFullTransmit c n ≡ false
-      empty n h = sym (bit-mask (isFullTransmit c) n h) ∙ ap (λ (x : ℕ). bitOf x n) (sym full ∙ z) ∙ bit-none n

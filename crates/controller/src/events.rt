@@ -128,12 +128,8 @@ impl Controller {
         ensures { λ r. ⌜ r ≡ maskOf (isReady (self .control) (heads (self .rows))) ⌝ }
     {
         let c = self.control;
-        let full = kinds::full(c);
-        if full == 0 {
-            return 0;
-        }
         let r = self.rows;
-        rows::named(r, full)
+        rows::named(r, kinds::full(c))
     }
 
     // The row to look at for a ruling: that of its buffer, and any other where it names none.

@@ -1,6 +1,6 @@
 // Reset, and the register calls.
 ghost use mathlib.Core.Path.{_≡_};
-ghost use Prim.Native.Nat.{_+_, _%_};
+ghost use Prim.Native.Nat.{_+_, _-_, _%_};
 ghost use mathlib.Core.List.{List};
 ghost use lib.ListN.{length};
 ghost use Rattle.contents.specs.declared.Contents.{Contents};
@@ -109,6 +109,13 @@ fn control_change(c: Control, n: u8, v: u8) -> Change
         return with_answer(c, Answer::Refused(k));
     }
     with_answer(writes::written_control(c, n, v), Answer::Ok)
+}
+
+// The buffer whose control register is at address a; 0 below $50.
+fn control_number(a: u8) -> u8
+    ensures { λ n. ⌜ n ≡ a - 0x50 ⌝ }
+{
+    if a < 0x50 { 0 } else { a - 0x50 }
 }
 
 impl Controller {
@@ -224,6 +231,13 @@ impl Controller {
         }
         let register = status::reads::register_at(a);
         write_rows(c, writes::written_low(c, register, v), register, v, row)
+    }
+
+    // What a write of the control register at address a changes, the control state being c; an address below $50 is taken for $50.
+    pub fn control_write(c: Control, a: u8, v: u8) -> Change
+        ensures { λ x. ⌜ ((d : Controller) → d .control ≡ c → changed d x ≡ doneOf (stepOf d (write (0x50 + (a - 0x50)) v))) ⌝ }
+    {
+        control_change(c, control_number(a), v)
     }
 
     // A register read. It changes nothing.

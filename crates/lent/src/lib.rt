@@ -2,7 +2,7 @@
 // changes: a read writes nothing, and a call that touches no buffer's bytes writes the control state alone.
 ghost use mathlib.Core.Path.{_≡_};
 ghost use lib.ListN.{length};
-ghost use Rattle.rules.specs.Steps.Step.{frame as frameStep};
+ghost use Rattle.rules.specs.Steps.Step.{frame as frameStep, write as writeStep};
 ghost use Rattle.controller.specs.Session.{stepOf};
 ghost use Rattle.controller.specs.declared.Controller.{Controller};
 ghost use Rattle.controller.specs.Carry.{rowAt};
@@ -68,6 +68,23 @@ pub fn frame(c: &mut Controller, good: bool, f: &[u8]) -> Answer
     carry(c, x)
 }
 
+// The step of a register write. The control registers, which test code writes most, have a path of their own: it takes no row.
+fn write(c: &mut Controller, a: u8, v: u8) -> Answer
+    ensures { λ r. ⌜ (now (c .exit) ≡ doneOf (stepOf (now (c .entry)) (writeStep a v)) .next) × (r ≡ doneOf (stepOf (now (c .entry)) (writeStep a v)) .answer) ⌝ }
+{
+    if a < 0x50 {
+        let d = c.control;
+        let i = Controller::window_row(d, a);
+        let row = c.rows[i];
+        let x = Controller::write_change(d, a, v, row);
+        carry(c, x)
+    } else {
+        let d = c.control;
+        let x = Controller::control_write(d, a, v);
+        carry(c, x)
+    }
+}
+
 // The step: the record after it, its answer, and the room. Only a slot looks at the room, and only a frame at the bytes f.
 pub fn step(c: &mut Controller, call: Call, f: FrameBytes, room: &mut [u8]) -> Answer
     ensures { λ r. ⌜ (now (c .exit) ≡ doneOf (stepOf (now (c .entry)) (stepFor call (bytesIn f) (now (room .entry)))) .next) × (r ≡ doneOf (stepOf (now (c .entry)) (stepFor call (bytesIn f) (now (room .entry)))) .answer) × (now (room .exit) ≡ roomFor (now (c .entry)) call (now (room .entry))) ⌝ }
@@ -83,13 +100,7 @@ pub fn step(c: &mut Controller, call: Call, f: FrameBytes, room: &mut [u8]) -> A
             let row = c.rows[i];
             Controller::read_answer(d, a, row)
         }
-        Call::Write(a, v) => {
-            let d = c.control;
-            let i = Controller::window_row(d, a);
-            let row = c.rows[i];
-            let x = Controller::write_change(d, a, v, row);
-            carry(c, x)
-        }
+        Call::Write(a, v) => write(c, a, v),
         Call::Sync(k) => {
             let x = (*c).plan_sync(k);
             carry(c, x)

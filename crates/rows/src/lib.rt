@@ -1,15 +1,13 @@
 // The searches over the sixteen buffers' contents: which buffer carries an identifier, and which have one at all.
 // Every function answers for every mask and every identifier; 16 stands for no buffer.
 // The sixteen identifiers are taken out first, at places that the compiler knows: it then reads these sixteen bytes alone, where
-// an index that it doesn't know would have it copy all contents. A search for one buffer leaves at the first hit.
+// an index that it doesn't know would have it copy all contents. A search for one buffer leaves at the first hit, and compares the
+// identifier before it asks the mask: nearly every buffer differs in its identifier, so a miss costs one comparison.
 ghost use mathlib.Core.Path.{_≡_};
-ghost use lib.Dec.{eqb};
 ghost use lib.ListN.{getD};
-ghost use Rattle.masks.specs.Bits.{maskOf};
 ghost use Rattle.rows.specs.Search.{lowestWith, highestWith, namedOf};
-ghost use Rattle.rows.specs.Idents.{identsOf};
+ghost use Rattle.rows.specs.Idents.{identsOf, namedWithin};
 use contents::Contents;
-use masks::with;
 
 // The identifier of a buffer.
 fn ident(b: Contents) -> u8
@@ -42,22 +40,6 @@ fn idents(rows: [Contents; 16]) -> [u8; 16]
     ]
 }
 
-// The mask of the identifiers that are i.
-fn equal_to(idents: [u8; 16], i: u8) -> u16
-    ensures { λ r. ⌜ r ≡ maskOf (λ n. eqb (getD idents n 0) i) ⌝ }
-{
-    let mut m: u16 = 0;
-    let mut k: u8 = 0;
-    while k < 16 {
-        let n = k as usize;
-        if idents[n] == i {
-            m = with(m, k);
-        }
-        k += 1;
-    }
-    m
-}
-
 // The lowest buffer of the mask that carries identifier i, or 16: the first hit upwards.
 pub fn lowest_with(rows: [Contents; 16], m: u16, i: u8) -> u8
     ensures { λ r. ⌜ r ≡ lowestWith rows m i ⌝ }
@@ -66,7 +48,7 @@ pub fn lowest_with(rows: [Contents; 16], m: u16, i: u8) -> u8
     let mut k: u8 = 0;
     while k < 16 {
         let n = k as usize;
-        if masks::test(m, k) && ids[n] == i {
+        if ids[n] == i && masks::test(m, k) {
             return k;
         }
         k += 1;
@@ -83,16 +65,37 @@ pub fn highest_with(rows: [Contents; 16], m: u16, i: u8) -> u8
     while k > 0 {
         k -= 1;
         let n = k as usize;
-        if masks::test(m, k) && ids[n] == i {
+        if ids[n] == i && masks::test(m, k) {
             return k;
         }
     }
     16
 }
 
+// The mask m without those of the buffers from `from` on and below `to` that have no identifier. Where m has none of these
+// buffers nothing is looked at: a module's transmit buffers are mostly all in one half.
+fn named_within(m: u16, ids: [u8; 16], from: u8, to: u8) -> u16
+    ensures { λ r. ⌜ r ≡ namedWithin ids m from to ⌝ }
+{
+    if m & masks::below(to) & !masks::below(from) == 0 {
+        return m;
+    }
+    let mut rest = m;
+    let mut k = from;
+    while k < to && k < 16 {
+        let n = k as usize;
+        if ids[n] == 0 {
+            rest = masks::without(rest, k);
+        }
+        k += 1;
+    }
+    rest
+}
+
 // The mask of the buffers of a mask that have an identifier.
 pub fn named(rows: [Contents; 16], of: u16) -> u16
     ensures { λ r. ⌜ r ≡ namedOf rows of ⌝ }
 {
-    of & !equal_to(idents(rows), 0)
+    let ids = idents(rows);
+    named_within(named_within(of, ids, 0, 8), ids, 8, 16)
 }

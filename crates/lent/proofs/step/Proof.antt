@@ -97,10 +97,10 @@ use Rattle.controller.proofs.Controller.read_answer as reads
 use Rattle.controller.proofs.Controller.read_answer.Symbol as reads-def
 use Rattle.controller.proofs.Controller.read_answer.Symbol.{name as #reads}
 use Rattle.controller.proofs.Controller.read_answer.Met as reads-thm
-use Rattle.controller.proofs.Controller.write_change as writes
-use Rattle.controller.proofs.Controller.write_change.Symbol as writes-def
-use Rattle.controller.proofs.Controller.write_change.Symbol.{name as #writes}
-use Rattle.controller.proofs.Controller.write_change.Met as writes-thm
+use Rattle.lent.proofs.write as writes
+use Rattle.lent.proofs.write.Symbol as writes-def
+use Rattle.lent.proofs.write.Symbol.{name as #writes}
+use Rattle.lent.proofs.write.Met as writes-thm
 use Rattle.controller.proofs.Controller.plan_sync as syncs
 use Rattle.controller.proofs.Controller.plan_sync.Symbol as syncs-def
 use Rattle.controller.proofs.Controller.plan_sync.Symbol.{name as #syncs}
@@ -232,16 +232,16 @@ abbrev copied : ℕ → Bodyᴹ → Bodyᴹ
 copied i rest = seqᴹ (assignᴹ (placeᴹ i []) (rvOpd (copyᴹ (placeᴹ 1 (deref T′.mir ∷ []))))) rest
 
 abbrev carrying : ℕ → ℕ → Bodyᴹ
-carrying r k = seqᴹ (assignᴹ (placeᴹ r []) (addrOf (placeᴹ 1 (deref T′.mir ∷ [])))) (callᴹ #carries (copyᴹ (placeᴹ r []) ∷ copyᴹ (placeᴹ k []) ∷ []) (placeᴹ 32 []))
+carrying r k = seqᴹ (assignᴹ (placeᴹ r []) (addrOf (placeᴹ 1 (deref T′.mir ∷ [])))) (callᴹ #carries (copyᴹ (placeᴹ r []) ∷ copyᴹ (placeᴹ k []) ∷ []) (placeᴹ 28 []))
 
 abbrev code-reset : Bodyᴹ
-code-reset = copied 33 (seqᴹ (callᴹ #resets (copyᴹ (placeᴹ 33 []) ∷ []) (placeᴹ 5 [])) (carrying 34 5))
+code-reset = copied 29 (seqᴹ (callᴹ #resets (copyᴹ (placeᴹ 29 []) ∷ []) (placeᴹ 5 [])) (carrying 30 5))
 
 abbrev code-making-read : Bodyᴹ
-code-making-read = callᴹ #reads (copyᴹ (placeᴹ 7 []) ∷ copyᴹ (placeᴹ 6 []) ∷ copyᴹ (placeᴹ 9 []) ∷ []) (placeᴹ 32 [])
+code-making-read = callᴹ #reads (copyᴹ (placeᴹ 7 []) ∷ copyᴹ (placeᴹ 6 []) ∷ copyᴹ (placeᴹ 9 []) ∷ []) (placeᴹ 28 [])
 
 abbrev code-reading-read : Bodyᴹ
-code-reading-read = seqᴹ (assignᴹ (placeᴹ 35 []) (op2 (mul unsigned) (copyᴹ (placeᴹ 8 [])) (intᴹ w64 14))) (seqᴹ (assignᴹ (placeᴹ 36 []) (addrOf (placeᴹ 1 (deref T′.mir ∷ fieldᴹ 1 ∷ [])))) (seqᴹ (assignᴹ (placeᴹ 37 []) (op2 offset (copyᴹ (placeᴹ 36 [])) (copyᴹ (placeᴹ 35 [])))) (seqᴹ (assignᴹ (placeᴹ 38 []) (rvOpd (copyᴹ (placeᴹ 37 (deref Row′.mir ∷ []))))) (seqᴹ (assignᴹ (placeᴹ 9 []) (rvOpd (copyᴹ (placeᴹ 38 [])))) (code-making-read)))))
+code-reading-read = seqᴹ (assignᴹ (placeᴹ 31 []) (op2 (mul unsigned) (copyᴹ (placeᴹ 8 [])) (intᴹ w64 14))) (seqᴹ (assignᴹ (placeᴹ 32 []) (addrOf (placeᴹ 1 (deref T′.mir ∷ fieldᴹ 1 ∷ [])))) (seqᴹ (assignᴹ (placeᴹ 33 []) (op2 offset (copyᴹ (placeᴹ 32 [])) (copyᴹ (placeᴹ 31 [])))) (seqᴹ (assignᴹ (placeᴹ 34 []) (rvOpd (copyᴹ (placeᴹ 33 (deref Row′.mir ∷ []))))) (seqᴹ (assignᴹ (placeᴹ 9 []) (rvOpd (copyᴹ (placeᴹ 34 [])))) (code-making-read)))))
 
 abbrev code-finding-read : Bodyᴹ
 code-finding-read = seqᴹ (callᴹ #windows (copyᴹ (placeᴹ 7 []) ∷ copyᴹ (placeᴹ 6 []) ∷ []) (placeᴹ 8 [])) code-reading-read
@@ -249,53 +249,44 @@ code-finding-read = seqᴹ (callᴹ #windows (copyᴹ (placeᴹ 7 []) ∷ copy�
 abbrev code-read : Bodyᴹ
 code-read = seqᴹ (assignᴹ (placeᴹ 7 []) (rvOpd (copyᴹ (placeᴹ 1 (deref T′.mir ∷ fieldᴹ 0 ∷ []))))) code-finding-read
 
-abbrev code-making-write : Bodyᴹ
-code-making-write = seqᴹ (callᴹ #writes (copyᴹ (placeᴹ 12 []) ∷ copyᴹ (placeᴹ 10 []) ∷ copyᴹ (placeᴹ 11 []) ∷ copyᴹ (placeᴹ 14 []) ∷ []) (placeᴹ 15 [])) (carrying 43 15)
-
-abbrev code-reading-write : Bodyᴹ
-code-reading-write = seqᴹ (assignᴹ (placeᴹ 39 []) (op2 (mul unsigned) (copyᴹ (placeᴹ 13 [])) (intᴹ w64 14))) (seqᴹ (assignᴹ (placeᴹ 40 []) (addrOf (placeᴹ 1 (deref T′.mir ∷ fieldᴹ 1 ∷ [])))) (seqᴹ (assignᴹ (placeᴹ 41 []) (op2 offset (copyᴹ (placeᴹ 40 [])) (copyᴹ (placeᴹ 39 [])))) (seqᴹ (assignᴹ (placeᴹ 42 []) (rvOpd (copyᴹ (placeᴹ 41 (deref Row′.mir ∷ []))))) (seqᴹ (assignᴹ (placeᴹ 14 []) (rvOpd (copyᴹ (placeᴹ 42 [])))) (code-making-write)))))
-
-abbrev code-finding-write : Bodyᴹ
-code-finding-write = seqᴹ (callᴹ #windows (copyᴹ (placeᴹ 12 []) ∷ copyᴹ (placeᴹ 10 []) ∷ []) (placeᴹ 13 [])) code-reading-write
-
 abbrev code-write : Bodyᴹ
-code-write = seqᴹ (assignᴹ (placeᴹ 12 []) (rvOpd (copyᴹ (placeᴹ 1 (deref T′.mir ∷ fieldᴹ 0 ∷ []))))) code-finding-write
+code-write = seqᴹ (assignᴹ (placeᴹ 35 []) (addrOf (placeᴹ 1 (deref T′.mir ∷ [])))) (callᴹ #writes (copyᴹ (placeᴹ 35 []) ∷ copyᴹ (placeᴹ 10 []) ∷ copyᴹ (placeᴹ 11 []) ∷ []) (placeᴹ 28 []))
 
 abbrev code-sync : Bodyᴹ
-code-sync = copied 44 (seqᴹ (callᴹ #syncs (copyᴹ (placeᴹ 44 []) ∷ copyᴹ (placeᴹ 16 []) ∷ []) (placeᴹ 17 [])) (carrying 45 17))
+code-sync = copied 36 (seqᴹ (callᴹ #syncs (copyᴹ (placeᴹ 36 []) ∷ copyᴹ (placeᴹ 12 []) ∷ []) (placeᴹ 13 [])) (carrying 37 13))
 
 abbrev code-due : Bodyᴹ
-code-due = copied 46 (seqᴹ (callᴹ #dues (copyᴹ (placeᴹ 46 []) ∷ []) (placeᴹ 18 [])) (carrying 47 18))
+code-due = copied 38 (seqᴹ (callᴹ #dues (copyᴹ (placeᴹ 38 []) ∷ []) (placeᴹ 14 [])) (carrying 39 14))
 
 abbrev code-making-slot : Bodyᴹ
-code-making-slot = seqᴹ (assignᴹ (placeᴹ 53 []) (addrOf (placeᴹ 4 (fieldᴹ 0 ∷ deref (tyInt w8) ∷ [])))) (seqᴹ (assignᴹ (placeᴹ 54 []) (aggregate (copyᴹ (placeᴹ 53 []) ∷ copyᴹ (placeᴹ 4 (fieldᴹ 1 ∷ [])) ∷ []))) (seqᴹ (callᴹ #filled (copyᴹ (placeᴹ 20 []) ∷ copyᴹ (placeᴹ 22 []) ∷ copyᴹ (placeᴹ 54 []) ∷ []) (placeᴹ 23 [])) (carrying 55 23)))
+code-making-slot = seqᴹ (assignᴹ (placeᴹ 45 []) (addrOf (placeᴹ 4 (fieldᴹ 0 ∷ deref (tyInt w8) ∷ [])))) (seqᴹ (assignᴹ (placeᴹ 46 []) (aggregate (copyᴹ (placeᴹ 45 []) ∷ copyᴹ (placeᴹ 4 (fieldᴹ 1 ∷ [])) ∷ []))) (seqᴹ (callᴹ #filled (copyᴹ (placeᴹ 16 []) ∷ copyᴹ (placeᴹ 18 []) ∷ copyᴹ (placeᴹ 46 []) ∷ []) (placeᴹ 19 [])) (carrying 47 19)))
 
 abbrev code-reading-slot : Bodyᴹ
-code-reading-slot = seqᴹ (assignᴹ (placeᴹ 49 []) (op2 (mul unsigned) (copyᴹ (placeᴹ 21 [])) (intᴹ w64 14))) (seqᴹ (assignᴹ (placeᴹ 50 []) (addrOf (placeᴹ 1 (deref T′.mir ∷ fieldᴹ 1 ∷ [])))) (seqᴹ (assignᴹ (placeᴹ 51 []) (op2 offset (copyᴹ (placeᴹ 50 [])) (copyᴹ (placeᴹ 49 [])))) (seqᴹ (assignᴹ (placeᴹ 52 []) (rvOpd (copyᴹ (placeᴹ 51 (deref Row′.mir ∷ []))))) (seqᴹ (assignᴹ (placeᴹ 22 []) (rvOpd (copyᴹ (placeᴹ 52 [])))) (code-making-slot)))))
+code-reading-slot = seqᴹ (assignᴹ (placeᴹ 41 []) (op2 (mul unsigned) (copyᴹ (placeᴹ 17 [])) (intᴹ w64 14))) (seqᴹ (assignᴹ (placeᴹ 42 []) (addrOf (placeᴹ 1 (deref T′.mir ∷ fieldᴹ 1 ∷ [])))) (seqᴹ (assignᴹ (placeᴹ 43 []) (op2 offset (copyᴹ (placeᴹ 42 [])) (copyᴹ (placeᴹ 41 [])))) (seqᴹ (assignᴹ (placeᴹ 44 []) (rvOpd (copyᴹ (placeᴹ 43 (deref Row′.mir ∷ []))))) (seqᴹ (assignᴹ (placeᴹ 18 []) (rvOpd (copyᴹ (placeᴹ 44 [])))) (code-making-slot)))))
 
 abbrev code-finding-slot : Bodyᴹ
-code-finding-slot = seqᴹ (callᴹ #rows (copyᴹ (placeᴹ 20 []) ∷ []) (placeᴹ 21 [])) code-reading-slot
+code-finding-slot = seqᴹ (callᴹ #rows (copyᴹ (placeᴹ 16 []) ∷ []) (placeᴹ 17 [])) code-reading-slot
 
 abbrev code-slot : Bodyᴹ
-code-slot = copied 48 (seqᴹ (assignᴹ (placeᴹ 49 []) (rvOpd (copyᴹ (placeᴹ 4 (fieldᴹ 1 ∷ []))))) (seqᴹ (callᴹ #slots (copyᴹ (placeᴹ 48 []) ∷ copyᴹ (placeᴹ 19 []) ∷ copyᴹ (placeᴹ 49 []) ∷ []) (placeᴹ 20 [])) code-finding-slot))
+code-slot = copied 40 (seqᴹ (assignᴹ (placeᴹ 41 []) (rvOpd (copyᴹ (placeᴹ 4 (fieldᴹ 1 ∷ []))))) (seqᴹ (callᴹ #slots (copyᴹ (placeᴹ 40 []) ∷ copyᴹ (placeᴹ 15 []) ∷ copyᴹ (placeᴹ 41 []) ∷ []) (placeᴹ 16 [])) code-finding-slot))
 
 abbrev code-making-ruling : Bodyᴹ
-code-making-ruling = seqᴹ (callᴹ #frameds (copyᴹ (placeᴹ 25 []) ∷ copyᴹ (placeᴹ 27 []) ∷ copyᴹ (placeᴹ 3 []) ∷ []) (placeᴹ 28 [])) (carrying 61 28)
+code-making-ruling = seqᴹ (callᴹ #frameds (copyᴹ (placeᴹ 21 []) ∷ copyᴹ (placeᴹ 23 []) ∷ copyᴹ (placeᴹ 3 []) ∷ []) (placeᴹ 24 [])) (carrying 53 24)
 
 abbrev code-reading-ruling : Bodyᴹ
-code-reading-ruling = seqᴹ (assignᴹ (placeᴹ 57 []) (op2 (mul unsigned) (copyᴹ (placeᴹ 26 [])) (intᴹ w64 14))) (seqᴹ (assignᴹ (placeᴹ 58 []) (addrOf (placeᴹ 1 (deref T′.mir ∷ fieldᴹ 1 ∷ [])))) (seqᴹ (assignᴹ (placeᴹ 59 []) (op2 offset (copyᴹ (placeᴹ 58 [])) (copyᴹ (placeᴹ 57 [])))) (seqᴹ (assignᴹ (placeᴹ 60 []) (rvOpd (copyᴹ (placeᴹ 59 (deref Row′.mir ∷ []))))) (seqᴹ (assignᴹ (placeᴹ 27 []) (rvOpd (copyᴹ (placeᴹ 60 [])))) (code-making-ruling)))))
+code-reading-ruling = seqᴹ (assignᴹ (placeᴹ 49 []) (op2 (mul unsigned) (copyᴹ (placeᴹ 22 [])) (intᴹ w64 14))) (seqᴹ (assignᴹ (placeᴹ 50 []) (addrOf (placeᴹ 1 (deref T′.mir ∷ fieldᴹ 1 ∷ [])))) (seqᴹ (assignᴹ (placeᴹ 51 []) (op2 offset (copyᴹ (placeᴹ 50 [])) (copyᴹ (placeᴹ 49 [])))) (seqᴹ (assignᴹ (placeᴹ 52 []) (rvOpd (copyᴹ (placeᴹ 51 (deref Row′.mir ∷ []))))) (seqᴹ (assignᴹ (placeᴹ 23 []) (rvOpd (copyᴹ (placeᴹ 52 [])))) (code-making-ruling)))))
 
 abbrev code-finding-ruling : Bodyᴹ
-code-finding-ruling = seqᴹ (callᴹ #rows (copyᴹ (placeᴹ 25 []) ∷ []) (placeᴹ 26 [])) code-reading-ruling
+code-finding-ruling = seqᴹ (callᴹ #rows (copyᴹ (placeᴹ 21 []) ∷ []) (placeᴹ 22 [])) code-reading-ruling
 
 abbrev code-ruling : Bodyᴹ
-code-ruling = copied 56 (seqᴹ (callᴹ #rulings (copyᴹ (placeᴹ 56 []) ∷ copyᴹ (placeᴹ 24 []) ∷ copyᴹ (placeᴹ 3 []) ∷ []) (placeᴹ 25 [])) code-finding-ruling)
+code-ruling = copied 48 (seqᴹ (callᴹ #rulings (copyᴹ (placeᴹ 48 []) ∷ copyᴹ (placeᴹ 20 []) ∷ copyᴹ (placeᴹ 3 []) ∷ []) (placeᴹ 21 [])) code-finding-ruling)
 
 abbrev code-fault : Bodyᴹ
-code-fault = copied 62 (seqᴹ (callᴹ #faults (copyᴹ (placeᴹ 62 []) ∷ copyᴹ (placeᴹ 29 []) ∷ []) (placeᴹ 30 [])) (carrying 63 30))
+code-fault = copied 54 (seqᴹ (callᴹ #faults (copyᴹ (placeᴹ 54 []) ∷ copyᴹ (placeᴹ 25 []) ∷ []) (placeᴹ 26 [])) (carrying 55 26))
 
 abbrev code-timeout : Bodyᴹ
-code-timeout = copied 64 (seqᴹ (callᴹ #timeouts (copyᴹ (placeᴹ 64 []) ∷ []) (placeᴹ 31 [])) (carrying 65 31))
+code-timeout = copied 56 (seqᴹ (callᴹ #timeouts (copyᴹ (placeᴹ 56 []) ∷ []) (placeᴹ 27 [])) (carrying 57 27))
 
 abbrev arm-reset : Bodyᴹ
 arm-reset = code-reset
@@ -307,19 +298,19 @@ abbrev arm-write : Bodyᴹ
 arm-write = taken 10 2 1 (taken 11 2 2 code-write)
 
 abbrev arm-sync : Bodyᴹ
-arm-sync = taken 16 3 1 code-sync
+arm-sync = taken 12 3 1 code-sync
 
 abbrev arm-due : Bodyᴹ
 arm-due = code-due
 
 abbrev arm-slot : Bodyᴹ
-arm-slot = taken 19 5 1 code-slot
+arm-slot = taken 15 5 1 code-slot
 
 abbrev arm-ruling : Bodyᴹ
-arm-ruling = taken 24 6 1 code-ruling
+arm-ruling = taken 20 6 1 code-ruling
 
 abbrev arm-fault : Bodyᴹ
-arm-fault = taken 29 7 1 code-fault
+arm-fault = taken 25 7 1 code-fault
 
 abbrev arm-timeout : Bodyᴹ
 arm-timeout = code-timeout
@@ -392,14 +383,14 @@ module _ {M : Type 1} (𝓤 : URA M) (H : Heap 𝓤) (A : Atoms 𝓤) (W : Given
   asked-read : (n : ℕ) (k : Contents) → n < 2 ^ 8 → Is Control-row.the-row (h .control) (LL.val Control-row.the-type Control-row′.the-laws (h .control) ∷ []) → Is Row.the-row k (LL.val Row.the-type Row′.the-laws k ∷ []) → ent 𝓤 (emp 𝓤) ((Reads 𝓤 H A at-mem run) .pre (to-read n k))
   asked-read n k n-fits d-is k-is = qed W [] ∵ nothing ! $ nothing ! $ owned ! Row.the-row (Is Row.the-row) (LL.makes Row.the-type Row′.the-plain 𝓤 H A) k _ k-is $ fjoin ! $ owned ! u8 (Is u8) (uint-makes 𝓤 H A W w8) n _ (refl, n-fits) $ fjoin ! $ owned ! Control-row.the-row (Is Control-row.the-row) (LL.makes Control-row.the-type Control-row′.the-plain 𝓤 H A) (h .control) _ d-is $ fjoin ! $ move ! (1 ∷ 0 ∷ []) $ join ! $ nothing ! $ move ! (1 ∷ 0 ∷ []) $ join ! $ done !
 
-  abbrev args-write : ℕ → ℕ → Contents → Control × (ℕ × (ℕ × (Contents × (Unit {0}))))
-  args-write n u k = (h .control, (n, (u, (k, tt))))
+  abbrev args-write : ℕ → ℕ → RefT Controller × (ℕ × (ℕ × Unit {0}))
+  args-write n u = (rec, (n, (u, tt)))
 
-  abbrev to-write : ℕ → ℕ → Contents → (Writes 𝓤 H A at-mem run) .Ghost
-  to-write n u k = ((tt, tt, tt, args-write n u k, (LL.val Control-row.the-type Control-row′.the-laws (h .control) ∷ [], (vint w8 n ∷ [], (vint w8 u ∷ [], (LL.val Row.the-type Row′.the-laws k ∷ [], tt))))), tt)
+  abbrev to-write : ℕ → ℕ → (Writes 𝓤 H A at-mem run) .Ghost
+  to-write n u = (((κ, tt), (q, tt), tt, args-write n u, (vptr b o ∷ [], (vint w8 n ∷ [], (vint w8 u ∷ [], tt)))), tt)
 
-  asked-write : (n : ℕ) (u : ℕ) (k : Contents) → n < 2 ^ 8 → u < 2 ^ 8 → Is Control-row.the-row (h .control) (LL.val Control-row.the-type Control-row′.the-laws (h .control) ∷ []) → Is Row.the-row k (LL.val Row.the-type Row′.the-laws k ∷ []) → ent 𝓤 (emp 𝓤) ((Writes 𝓤 H A at-mem run) .pre (to-write n u k))
-  asked-write n u k n-fits u-fits d-is k-is = qed W [] ∵ nothing ! $ nothing ! $ owned ! Row.the-row (Is Row.the-row) (LL.makes Row.the-type Row′.the-plain 𝓤 H A) k _ k-is $ fjoin ! $ owned ! u8 (Is u8) (uint-makes 𝓤 H A W w8) u _ (refl, u-fits) $ fjoin ! $ owned ! u8 (Is u8) (uint-makes 𝓤 H A W w8) n _ (refl, n-fits) $ fjoin ! $ owned ! Control-row.the-row (Is Control-row.the-row) (LL.makes Control-row.the-type Control-row′.the-plain 𝓤 H A) (h .control) _ d-is $ fjoin ! $ move ! (1 ∷ 0 ∷ []) $ join ! $ nothing ! $ move ! (1 ∷ 0 ∷ []) $ join ! $ done !
+  asked-write : (n : ℕ) (u : ℕ) → n < 2 ^ 8 → u < 2 ^ 8 → ent 𝓤 (⋆ 𝓤 H A (‵ (fobs γ (T.the-row .coded .code h)) ∷ ‵ (fbor κ (Body (mem T.the-row) b o γ)) ∷ ‵ (flft κ q) ∷ [])) ((Writes 𝓤 H A at-mem run) .pre (to-write n u))
+  asked-write n u n-fits u-fits = qed W (‵ (fobs γ (T.the-row .coded .code h)) ∷ ‵ (fbor κ (Body (mem T.the-row) b o γ)) ∷ ‵ (flft κ q) ∷ []) ∵ nothing ! $ move ! (3 ∷ 0 ∷ []) $ join ! $ nothing ! $ owned ! u8 (Is u8) (uint-makes 𝓤 H A W w8) u _ (refl, u-fits) $ fjoin ! $ owned ! u8 (Is u8) (uint-makes 𝓤 H A W w8) n _ (refl, n-fits) $ fjoin ! $ move ! (2 ∷ 3 ∷ 0 ∷ []) $ feqI ! (List Val) (vptr b o ∷ []) (vptr b o ∷ []) refl $ fjoin3 ! $ fjoin ! $ move ! (1 ∷ 0 ∷ []) $ join ! $ nothing ! $ move ! (1 ∷ 0 ∷ []) $ join ! $ done !
 
   abbrev args-sync : SyncKind → Controller × (SyncKind × (Unit {0}))
   args-sync k = (h, (k, tt))
@@ -495,13 +486,13 @@ module _ {M : Type 1} (𝓤 : URA M) (H : Heap 𝓤) (A : Atoms 𝓤) (W : Given
   asked-carry x x-is = qed W (‵ (fobs γ (T.the-row .coded .code h)) ∷ ‵ (fbor κ (Body (mem T.the-row) b o γ)) ∷ ‵ (flft κ q) ∷ []) ∵ nothing ! $ move ! (3 ∷ 0 ∷ []) $ join ! $ nothing ! $ owned ! S.the-row (Is S.the-row) (LL.makes S.the-type S′.the-plain 𝓤 H A) x _ x-is $ fjoin ! $ move ! (2 ∷ 3 ∷ 0 ∷ []) $ feqI ! (List Val) (vptr b o ∷ []) (vptr b o ∷ []) refl $ fjoin3 ! $ fjoin ! $ move ! (1 ∷ 0 ∷ []) $ join ! $ nothing ! $ move ! (1 ∷ 0 ∷ []) $ join ! $ done !
 
   module _ (C : Calls 𝓤 H) (Λ : Loops 𝓤 H) (fm : FmC 𝓤 H (W .laws) C) (known-resets : Triple 𝓤 (C #resets) (Resets 𝓤 H A at-mem run)) (known-reads : Triple 𝓤 (C #reads) (Reads 𝓤 H A at-mem run)) (known-writes : Triple 𝓤 (C #writes) (Writes 𝓤 H A at-mem run)) (known-syncs : Triple 𝓤 (C #syncs) (Syncs 𝓤 H A at-mem run)) (known-dues : Triple 𝓤 (C #dues) (Dues 𝓤 H A at-mem run)) (known-slots : Triple 𝓤 (C #slots) (Slots 𝓤 H A at-mem run)) (known-rulings : Triple 𝓤 (C #rulings) (Rulings 𝓤 H A at-mem run)) (known-faults : Triple 𝓤 (C #faults) (Faults 𝓤 H A at-mem run)) (known-timeouts : Triple 𝓤 (C #timeouts) (Timeouts 𝓤 H A at-mem run)) (known-rows : Triple 𝓤 (C #rows) (Rows 𝓤 H A at-mem run)) (known-windows : Triple 𝓤 (C #windows) (Windows 𝓤 H A at-mem run)) (known-frameds : Triple 𝓤 (C #frameds) (Frameds 𝓤 H A at-mem run)) (known-filled : Triple 𝓤 (C #filled) (Filled 𝓤 H A at-mem run)) (known-carries : Triple 𝓤 (C #carries) (Carries 𝓤 H A at-mem run)) where
-    module _ (l0 l1 l2 l3 l4 l5 l6 l7 l8 l9 l10 l11 l12 l13 l14 l15 l16 l17 l18 l19 l20 l21 l22 l23 l24 l25 l26 l27 l28 l29 l30 l31 l32 l33 l34 l35 l36 l37 l38 l39 l40 l41 l42 l43 l44 l45 l46 l47 l48 l49 l50 l51 l52 l53 l54 l55 l56 l57 l58 l59 l60 l61 l62 l63 l64 l65 : ℕ) where
+    module _ (l0 l1 l2 l3 l4 l5 l6 l7 l8 l9 l10 l11 l12 l13 l14 l15 l16 l17 l18 l19 l20 l21 l22 l23 l24 l25 l26 l27 l28 l29 l30 l31 l32 l33 l34 l35 l36 l37 l38 l39 l40 l41 l42 l43 l44 l45 l46 l47 l48 l49 l50 l51 l52 l53 l54 l55 l56 l57 : ℕ) where
       -- the locals, and what frees them
       abbrev En : Env 𝓤 H
-      En = (Answer-row′.mir, l0) ∷ (tyRef (named 0) mut rec-ty, l1) ∷ (Call-row′.mir, l2) ∷ (Frame-row′.mir, l3) ∷ (sliceTy (tyRef (named 1) mut (tyInt w8)), l4) ∷ (out-ty, l5) ∷ (tyInt w8, l6) ∷ (Control-row′.mir, l7) ∷ (tyInt w64, l8) ∷ (Row′.mir, l9) ∷ (tyInt w8, l10) ∷ (tyInt w8, l11) ∷ (Control-row′.mir, l12) ∷ (tyInt w64, l13) ∷ (Row′.mir, l14) ∷ (out-ty, l15) ∷ (Sync-row′.mir, l16) ∷ (out-ty, l17) ∷ (out-ty, l18) ∷ (tyInt w8, l19) ∷ (Ruling-row′.mir, l20) ∷ (tyInt w64, l21) ∷ (Row′.mir, l22) ∷ (out-ty, l23) ∷ (tyBool, l24) ∷ (Ruling-row′.mir, l25) ∷ (tyInt w64, l26) ∷ (Row′.mir, l27) ∷ (out-ty, l28) ∷ (Fault-row′.mir, l29) ∷ (out-ty, l30) ∷ (out-ty, l31) ∷ (Answer-row′.mir, l32) ∷ (T′.mir, l33) ∷ (tyRef erased mut rec-ty, l34) ∷ (tyInt w64, l35) ∷ (tyPtr, l36) ∷ (tyPtr, l37) ∷ (Row′.mir, l38) ∷ (tyInt w64, l39) ∷ (tyPtr, l40) ∷ (tyPtr, l41) ∷ (Row′.mir, l42) ∷ (tyRef erased mut rec-ty, l43) ∷ (T′.mir, l44) ∷ (tyRef erased mut rec-ty, l45) ∷ (T′.mir, l46) ∷ (tyRef erased mut rec-ty, l47) ∷ (T′.mir, l48) ∷ (tyInt w64, l49) ∷ (tyPtr, l50) ∷ (tyPtr, l51) ∷ (Row′.mir, l52) ∷ (tyRef erased mut (tyInt w8), l53) ∷ (sliceTy (tyRef erased mut (tyInt w8)), l54) ∷ (tyRef erased mut rec-ty, l55) ∷ (T′.mir, l56) ∷ (tyInt w64, l57) ∷ (tyPtr, l58) ∷ (tyPtr, l59) ∷ (Row′.mir, l60) ∷ (tyRef erased mut rec-ty, l61) ∷ (T′.mir, l62) ∷ (tyRef erased mut rec-ty, l63) ∷ (T′.mir, l64) ∷ (tyRef erased mut rec-ty, l65) ∷ []
+      En = (Answer-row′.mir, l0) ∷ (tyRef (named 0) mut rec-ty, l1) ∷ (Call-row′.mir, l2) ∷ (Frame-row′.mir, l3) ∷ (sliceTy (tyRef (named 1) mut (tyInt w8)), l4) ∷ (out-ty, l5) ∷ (tyInt w8, l6) ∷ (Control-row′.mir, l7) ∷ (tyInt w64, l8) ∷ (Row′.mir, l9) ∷ (tyInt w8, l10) ∷ (tyInt w8, l11) ∷ (Sync-row′.mir, l12) ∷ (out-ty, l13) ∷ (out-ty, l14) ∷ (tyInt w8, l15) ∷ (Ruling-row′.mir, l16) ∷ (tyInt w64, l17) ∷ (Row′.mir, l18) ∷ (out-ty, l19) ∷ (tyBool, l20) ∷ (Ruling-row′.mir, l21) ∷ (tyInt w64, l22) ∷ (Row′.mir, l23) ∷ (out-ty, l24) ∷ (Fault-row′.mir, l25) ∷ (out-ty, l26) ∷ (out-ty, l27) ∷ (Answer-row′.mir, l28) ∷ (T′.mir, l29) ∷ (tyRef erased mut rec-ty, l30) ∷ (tyInt w64, l31) ∷ (tyPtr, l32) ∷ (tyPtr, l33) ∷ (Row′.mir, l34) ∷ (tyRef erased mut rec-ty, l35) ∷ (T′.mir, l36) ∷ (tyRef erased mut rec-ty, l37) ∷ (T′.mir, l38) ∷ (tyRef erased mut rec-ty, l39) ∷ (T′.mir, l40) ∷ (tyInt w64, l41) ∷ (tyPtr, l42) ∷ (tyPtr, l43) ∷ (Row′.mir, l44) ∷ (tyRef erased mut (tyInt w8), l45) ∷ (sliceTy (tyRef erased mut (tyInt w8)), l46) ∷ (tyRef erased mut rec-ty, l47) ∷ (T′.mir, l48) ∷ (tyInt w64, l49) ∷ (tyPtr, l50) ∷ (tyPtr, l51) ∷ (Row′.mir, l52) ∷ (tyRef erased mut rec-ty, l53) ∷ (T′.mir, l54) ∷ (tyRef erased mut rec-ty, l55) ∷ (T′.mir, l56) ∷ (tyRef erased mut rec-ty, l57) ∷ []
 
       abbrev Dies : List (Item 𝓤)
-      Dies = ‵ (fdies Answer-row′.mir l0) ∷ ‵ (fdies (tyRef (named 0) mut rec-ty) l1) ∷ ‵ (fdies Call-row′.mir l2) ∷ ‵ (fdies Frame-row′.mir l3) ∷ ‵ (fdies (sliceTy (tyRef (named 1) mut (tyInt w8))) l4) ∷ ‵ (fdies out-ty l5) ∷ ‵ (fdies (tyInt w8) l6) ∷ ‵ (fdies Control-row′.mir l7) ∷ ‵ (fdies (tyInt w64) l8) ∷ ‵ (fdies Row′.mir l9) ∷ ‵ (fdies (tyInt w8) l10) ∷ ‵ (fdies (tyInt w8) l11) ∷ ‵ (fdies Control-row′.mir l12) ∷ ‵ (fdies (tyInt w64) l13) ∷ ‵ (fdies Row′.mir l14) ∷ ‵ (fdies out-ty l15) ∷ ‵ (fdies Sync-row′.mir l16) ∷ ‵ (fdies out-ty l17) ∷ ‵ (fdies out-ty l18) ∷ ‵ (fdies (tyInt w8) l19) ∷ ‵ (fdies Ruling-row′.mir l20) ∷ ‵ (fdies (tyInt w64) l21) ∷ ‵ (fdies Row′.mir l22) ∷ ‵ (fdies out-ty l23) ∷ ‵ (fdies tyBool l24) ∷ ‵ (fdies Ruling-row′.mir l25) ∷ ‵ (fdies (tyInt w64) l26) ∷ ‵ (fdies Row′.mir l27) ∷ ‵ (fdies out-ty l28) ∷ ‵ (fdies Fault-row′.mir l29) ∷ ‵ (fdies out-ty l30) ∷ ‵ (fdies out-ty l31) ∷ ‵ (fdies Answer-row′.mir l32) ∷ ‵ (fdies T′.mir l33) ∷ ‵ (fdies (tyRef erased mut rec-ty) l34) ∷ ‵ (fdies (tyInt w64) l35) ∷ ‵ (fdies tyPtr l36) ∷ ‵ (fdies tyPtr l37) ∷ ‵ (fdies Row′.mir l38) ∷ ‵ (fdies (tyInt w64) l39) ∷ ‵ (fdies tyPtr l40) ∷ ‵ (fdies tyPtr l41) ∷ ‵ (fdies Row′.mir l42) ∷ ‵ (fdies (tyRef erased mut rec-ty) l43) ∷ ‵ (fdies T′.mir l44) ∷ ‵ (fdies (tyRef erased mut rec-ty) l45) ∷ ‵ (fdies T′.mir l46) ∷ ‵ (fdies (tyRef erased mut rec-ty) l47) ∷ ‵ (fdies T′.mir l48) ∷ ‵ (fdies (tyInt w64) l49) ∷ ‵ (fdies tyPtr l50) ∷ ‵ (fdies tyPtr l51) ∷ ‵ (fdies Row′.mir l52) ∷ ‵ (fdies (tyRef erased mut (tyInt w8)) l53) ∷ ‵ (fdies (sliceTy (tyRef erased mut (tyInt w8))) l54) ∷ ‵ (fdies (tyRef erased mut rec-ty) l55) ∷ ‵ (fdies T′.mir l56) ∷ ‵ (fdies (tyInt w64) l57) ∷ ‵ (fdies tyPtr l58) ∷ ‵ (fdies tyPtr l59) ∷ ‵ (fdies Row′.mir l60) ∷ ‵ (fdies (tyRef erased mut rec-ty) l61) ∷ ‵ (fdies T′.mir l62) ∷ ‵ (fdies (tyRef erased mut rec-ty) l63) ∷ ‵ (fdies T′.mir l64) ∷ ‵ (fdies (tyRef erased mut rec-ty) l65) ∷ []
+      Dies = ‵ (fdies Answer-row′.mir l0) ∷ ‵ (fdies (tyRef (named 0) mut rec-ty) l1) ∷ ‵ (fdies Call-row′.mir l2) ∷ ‵ (fdies Frame-row′.mir l3) ∷ ‵ (fdies (sliceTy (tyRef (named 1) mut (tyInt w8))) l4) ∷ ‵ (fdies out-ty l5) ∷ ‵ (fdies (tyInt w8) l6) ∷ ‵ (fdies Control-row′.mir l7) ∷ ‵ (fdies (tyInt w64) l8) ∷ ‵ (fdies Row′.mir l9) ∷ ‵ (fdies (tyInt w8) l10) ∷ ‵ (fdies (tyInt w8) l11) ∷ ‵ (fdies Sync-row′.mir l12) ∷ ‵ (fdies out-ty l13) ∷ ‵ (fdies out-ty l14) ∷ ‵ (fdies (tyInt w8) l15) ∷ ‵ (fdies Ruling-row′.mir l16) ∷ ‵ (fdies (tyInt w64) l17) ∷ ‵ (fdies Row′.mir l18) ∷ ‵ (fdies out-ty l19) ∷ ‵ (fdies tyBool l20) ∷ ‵ (fdies Ruling-row′.mir l21) ∷ ‵ (fdies (tyInt w64) l22) ∷ ‵ (fdies Row′.mir l23) ∷ ‵ (fdies out-ty l24) ∷ ‵ (fdies Fault-row′.mir l25) ∷ ‵ (fdies out-ty l26) ∷ ‵ (fdies out-ty l27) ∷ ‵ (fdies Answer-row′.mir l28) ∷ ‵ (fdies T′.mir l29) ∷ ‵ (fdies (tyRef erased mut rec-ty) l30) ∷ ‵ (fdies (tyInt w64) l31) ∷ ‵ (fdies tyPtr l32) ∷ ‵ (fdies tyPtr l33) ∷ ‵ (fdies Row′.mir l34) ∷ ‵ (fdies (tyRef erased mut rec-ty) l35) ∷ ‵ (fdies T′.mir l36) ∷ ‵ (fdies (tyRef erased mut rec-ty) l37) ∷ ‵ (fdies T′.mir l38) ∷ ‵ (fdies (tyRef erased mut rec-ty) l39) ∷ ‵ (fdies T′.mir l40) ∷ ‵ (fdies (tyInt w64) l41) ∷ ‵ (fdies tyPtr l42) ∷ ‵ (fdies tyPtr l43) ∷ ‵ (fdies Row′.mir l44) ∷ ‵ (fdies (tyRef erased mut (tyInt w8)) l45) ∷ ‵ (fdies (sliceTy (tyRef erased mut (tyInt w8))) l46) ∷ ‵ (fdies (tyRef erased mut rec-ty) l47) ∷ ‵ (fdies T′.mir l48) ∷ ‵ (fdies (tyInt w64) l49) ∷ ‵ (fdies tyPtr l50) ∷ ‵ (fdies tyPtr l51) ∷ ‵ (fdies Row′.mir l52) ∷ ‵ (fdies (tyRef erased mut rec-ty) l53) ∷ ‵ (fdies T′.mir l54) ∷ ‵ (fdies (tyRef erased mut rec-ty) l55) ∷ ‵ (fdies T′.mir l56) ∷ ‵ (fdies (tyRef erased mut rec-ty) l57) ∷ []
 
       -- what is left once an arm has ended
       abbrev Next : Call → Out → SProp 𝓤
@@ -509,48 +500,48 @@ module _ {M : Type 1} (𝓤 : URA M) (H : Heap 𝓤) (A : Atoms 𝓤) (W : Given
 
       module _ (call : Call) (call-is : Is Call-row.the-row call (EL.val Call-row.the-type Call-row′.the-laws call ∷ [])) where
         -- the `return`
-        answered : {y1 y2 y3 y4 : Val} (c : Controller) (m : Answer) (zs : List ℕ) → Says call c m zs → Is Answer-row.the-row m (EL.val Answer-row.the-type Answer-row′.the-laws m ∷ []) → length zs ≡ length room → Sq W (‵ (fres γ (T.the-row .coded .code c)) ∷ ‵ (flft κ q) ∷ ‵ (flft κ-room q-room) ∷ ‵ (finally u8 γ-room zs) ∷ ‵ (froom Answer-row′.mir l0 0) ∷ ‵ (fat fullShare (tyRef (named 0) mut rec-ty) l1 0 y1) ∷ ‵ (fat fullShare Call-row′.mir l2 0 y2) ∷ ‵ (fat fullShare Frame-row′.mir l3 0 y3) ∷ ‵ (fat fullShare (sliceTy (tyRef (named 1) mut (tyInt w8))) l4 0 y4) ∷ ‵ (froom out-ty l5 0) ∷ ‵ (froom (tyInt w8) l6 0) ∷ ‵ (froom Control-row′.mir l7 0) ∷ ‵ (froom (tyInt w64) l8 0) ∷ ‵ (froom Row′.mir l9 0) ∷ ‵ (froom (tyInt w8) l10 0) ∷ ‵ (froom (tyInt w8) l11 0) ∷ ‵ (froom Control-row′.mir l12 0) ∷ ‵ (froom (tyInt w64) l13 0) ∷ ‵ (froom Row′.mir l14 0) ∷ ‵ (froom out-ty l15 0) ∷ ‵ (froom Sync-row′.mir l16 0) ∷ ‵ (froom out-ty l17 0) ∷ ‵ (froom out-ty l18 0) ∷ ‵ (froom (tyInt w8) l19 0) ∷ ‵ (froom Ruling-row′.mir l20 0) ∷ ‵ (froom (tyInt w64) l21 0) ∷ ‵ (froom Row′.mir l22 0) ∷ ‵ (froom out-ty l23 0) ∷ ‵ (froom tyBool l24 0) ∷ ‵ (froom Ruling-row′.mir l25 0) ∷ ‵ (froom (tyInt w64) l26 0) ∷ ‵ (froom Row′.mir l27 0) ∷ ‵ (froom out-ty l28 0) ∷ ‵ (froom Fault-row′.mir l29 0) ∷ ‵ (froom out-ty l30 0) ∷ ‵ (froom out-ty l31 0) ∷ ‵ (fat fullShare Answer-row′.mir l32 0 (EL.val Answer-row.the-type Answer-row′.the-laws m)) ∷ ‵ (froom T′.mir l33 0) ∷ ‵ (froom (tyRef erased mut rec-ty) l34 0) ∷ ‵ (froom (tyInt w64) l35 0) ∷ ‵ (froom tyPtr l36 0) ∷ ‵ (froom tyPtr l37 0) ∷ ‵ (froom Row′.mir l38 0) ∷ ‵ (froom (tyInt w64) l39 0) ∷ ‵ (froom tyPtr l40 0) ∷ ‵ (froom tyPtr l41 0) ∷ ‵ (froom Row′.mir l42 0) ∷ ‵ (froom (tyRef erased mut rec-ty) l43 0) ∷ ‵ (froom T′.mir l44 0) ∷ ‵ (froom (tyRef erased mut rec-ty) l45 0) ∷ ‵ (froom T′.mir l46 0) ∷ ‵ (froom (tyRef erased mut rec-ty) l47 0) ∷ ‵ (froom T′.mir l48 0) ∷ ‵ (froom (tyInt w64) l49 0) ∷ ‵ (froom tyPtr l50 0) ∷ ‵ (froom tyPtr l51 0) ∷ ‵ (froom Row′.mir l52 0) ∷ ‵ (froom (tyRef erased mut (tyInt w8)) l53 0) ∷ ‵ (froom (sliceTy (tyRef erased mut (tyInt w8))) l54 0) ∷ ‵ (froom (tyRef erased mut rec-ty) l55 0) ∷ ‵ (froom T′.mir l56 0) ∷ ‵ (froom (tyInt w64) l57 0) ∷ ‵ (froom tyPtr l58 0) ∷ ‵ (froom tyPtr l59 0) ∷ ‵ (froom Row′.mir l60 0) ∷ ‵ (froom (tyRef erased mut rec-ty) l61 0) ∷ ‵ (froom T′.mir l62 0) ∷ ‵ (froom (tyRef erased mut rec-ty) l63 0) ∷ ‵ (froom T′.mir l64 0) ∷ ‵ (froom (tyRef erased mut rec-ty) l65 0) ∷ Dies) (runs C Λ En pieces.t-2 (atRet En (Post call)))
+        answered : {y1 y2 y3 y4 : Val} (c : Controller) (m : Answer) (zs : List ℕ) → Says call c m zs → Is Answer-row.the-row m (EL.val Answer-row.the-type Answer-row′.the-laws m ∷ []) → length zs ≡ length room → Sq W (‵ (fres γ (T.the-row .coded .code c)) ∷ ‵ (flft κ q) ∷ ‵ (flft κ-room q-room) ∷ ‵ (finally u8 γ-room zs) ∷ ‵ (froom Answer-row′.mir l0 0) ∷ ‵ (fat fullShare (tyRef (named 0) mut rec-ty) l1 0 y1) ∷ ‵ (fat fullShare Call-row′.mir l2 0 y2) ∷ ‵ (fat fullShare Frame-row′.mir l3 0 y3) ∷ ‵ (fat fullShare (sliceTy (tyRef (named 1) mut (tyInt w8))) l4 0 y4) ∷ ‵ (froom out-ty l5 0) ∷ ‵ (froom (tyInt w8) l6 0) ∷ ‵ (froom Control-row′.mir l7 0) ∷ ‵ (froom (tyInt w64) l8 0) ∷ ‵ (froom Row′.mir l9 0) ∷ ‵ (froom (tyInt w8) l10 0) ∷ ‵ (froom (tyInt w8) l11 0) ∷ ‵ (froom Sync-row′.mir l12 0) ∷ ‵ (froom out-ty l13 0) ∷ ‵ (froom out-ty l14 0) ∷ ‵ (froom (tyInt w8) l15 0) ∷ ‵ (froom Ruling-row′.mir l16 0) ∷ ‵ (froom (tyInt w64) l17 0) ∷ ‵ (froom Row′.mir l18 0) ∷ ‵ (froom out-ty l19 0) ∷ ‵ (froom tyBool l20 0) ∷ ‵ (froom Ruling-row′.mir l21 0) ∷ ‵ (froom (tyInt w64) l22 0) ∷ ‵ (froom Row′.mir l23 0) ∷ ‵ (froom out-ty l24 0) ∷ ‵ (froom Fault-row′.mir l25 0) ∷ ‵ (froom out-ty l26 0) ∷ ‵ (froom out-ty l27 0) ∷ ‵ (fat fullShare Answer-row′.mir l28 0 (EL.val Answer-row.the-type Answer-row′.the-laws m)) ∷ ‵ (froom T′.mir l29 0) ∷ ‵ (froom (tyRef erased mut rec-ty) l30 0) ∷ ‵ (froom (tyInt w64) l31 0) ∷ ‵ (froom tyPtr l32 0) ∷ ‵ (froom tyPtr l33 0) ∷ ‵ (froom Row′.mir l34 0) ∷ ‵ (froom (tyRef erased mut rec-ty) l35 0) ∷ ‵ (froom T′.mir l36 0) ∷ ‵ (froom (tyRef erased mut rec-ty) l37 0) ∷ ‵ (froom T′.mir l38 0) ∷ ‵ (froom (tyRef erased mut rec-ty) l39 0) ∷ ‵ (froom T′.mir l40 0) ∷ ‵ (froom (tyInt w64) l41 0) ∷ ‵ (froom tyPtr l42 0) ∷ ‵ (froom tyPtr l43 0) ∷ ‵ (froom Row′.mir l44 0) ∷ ‵ (froom (tyRef erased mut (tyInt w8)) l45 0) ∷ ‵ (froom (sliceTy (tyRef erased mut (tyInt w8))) l46 0) ∷ ‵ (froom (tyRef erased mut rec-ty) l47 0) ∷ ‵ (froom T′.mir l48 0) ∷ ‵ (froom (tyInt w64) l49 0) ∷ ‵ (froom tyPtr l50 0) ∷ ‵ (froom tyPtr l51 0) ∷ ‵ (froom Row′.mir l52 0) ∷ ‵ (froom (tyRef erased mut rec-ty) l53 0) ∷ ‵ (froom T′.mir l54 0) ∷ ‵ (froom (tyRef erased mut rec-ty) l55 0) ∷ ‵ (froom T′.mir l56 0) ∷ ‵ (froom (tyRef erased mut rec-ty) l57 0) ∷ Dies) (runs C Λ En pieces.t-2 (atRet En (Post call)))
         answered c m zs e g l =
-            assigns ! (of-opd ! (load ! (from ! (stop !)) (look ! 36 refl))) (from ! (stop !)) (init ! 4 refl (EL.lawful Answer-row.the-type Answer-row′.the-laws 𝓤 H A W tt .typed m _ g .0)) $
-            returns ! (look ! 4 refl) $ forget ! 4 refl $ forget ! 5 refl $ forget ! 6 refl $ forget ! 7 refl $ forget ! 8 refl $ forget ! 36 refl $
-            move ! (4 ∷ 70 ∷ []) $ free1 ! $ move ! (4 ∷ 69 ∷ []) $ free1 ! $ move ! (4 ∷ 68 ∷ []) $ free1 ! $ move ! (4 ∷ 67 ∷ []) $ free1 ! $ move ! (4 ∷ 66 ∷ []) $ free1 ! $ move ! (4 ∷ 65 ∷ []) $ free1 ! $ move ! (4 ∷ 64 ∷ []) $ free1 ! $ move ! (4 ∷ 63 ∷ []) $ free1 ! $ move ! (4 ∷ 62 ∷ []) $ free1 ! $ move ! (4 ∷ 61 ∷ []) $ free1 ! $ move ! (4 ∷ 60 ∷ []) $ free1 ! $ move ! (4 ∷ 59 ∷ []) $ free1 ! $ move ! (4 ∷ 58 ∷ []) $ free1 ! $ move ! (4 ∷ 57 ∷ []) $ free1 ! $ move ! (4 ∷ 56 ∷ []) $ free1 ! $ move ! (4 ∷ 55 ∷ []) $ free1 ! $ move ! (4 ∷ 54 ∷ []) $ free1 ! $ move ! (4 ∷ 53 ∷ []) $ free1 ! $ move ! (4 ∷ 52 ∷ []) $ free1 ! $ move ! (4 ∷ 51 ∷ []) $ free1 ! $ move ! (4 ∷ 50 ∷ []) $ free1 ! $ move ! (4 ∷ 49 ∷ []) $ free1 ! $ move ! (4 ∷ 48 ∷ []) $ free1 ! $ move ! (4 ∷ 47 ∷ []) $ free1 ! $ move ! (4 ∷ 46 ∷ []) $ free1 ! $ move ! (4 ∷ 45 ∷ []) $ free1 ! $ move ! (4 ∷ 44 ∷ []) $ free1 ! $ move ! (4 ∷ 43 ∷ []) $ free1 ! $ move ! (4 ∷ 42 ∷ []) $ free1 ! $ move ! (4 ∷ 41 ∷ []) $ free1 ! $ move ! (4 ∷ 40 ∷ []) $ free1 ! $ move ! (4 ∷ 39 ∷ []) $ free1 ! $ move ! (4 ∷ 38 ∷ []) $ free1 ! $ move ! (4 ∷ 37 ∷ []) $ free1 ! $ move ! (4 ∷ 36 ∷ []) $ free1 ! $ move ! (4 ∷ 35 ∷ []) $ free1 ! $ move ! (4 ∷ 34 ∷ []) $ free1 ! $ move ! (4 ∷ 33 ∷ []) $ free1 ! $ move ! (4 ∷ 32 ∷ []) $ free1 ! $ move ! (4 ∷ 31 ∷ []) $ free1 ! $ move ! (4 ∷ 30 ∷ []) $ free1 ! $ move ! (4 ∷ 29 ∷ []) $ free1 ! $ move ! (4 ∷ 28 ∷ []) $ free1 ! $ move ! (4 ∷ 27 ∷ []) $ free1 ! $ move ! (4 ∷ 26 ∷ []) $ free1 ! $ move ! (4 ∷ 25 ∷ []) $ free1 ! $ move ! (4 ∷ 24 ∷ []) $ free1 ! $ move ! (4 ∷ 23 ∷ []) $ free1 ! $ move ! (4 ∷ 22 ∷ []) $ free1 ! $ move ! (4 ∷ 21 ∷ []) $ free1 ! $ move ! (4 ∷ 20 ∷ []) $ free1 ! $ move ! (4 ∷ 19 ∷ []) $ free1 ! $ move ! (4 ∷ 18 ∷ []) $ free1 ! $ move ! (4 ∷ 17 ∷ []) $ free1 ! $ move ! (4 ∷ 16 ∷ []) $ free1 ! $ move ! (4 ∷ 15 ∷ []) $ free1 ! $ move ! (4 ∷ 14 ∷ []) $ free1 ! $ move ! (4 ∷ 13 ∷ []) $ free1 ! $ move ! (4 ∷ 12 ∷ []) $ free1 ! $ move ! (4 ∷ 11 ∷ []) $ free1 ! $ move ! (4 ∷ 10 ∷ []) $ free1 ! $ move ! (4 ∷ 9 ∷ []) $ free1 ! $ move ! (4 ∷ 8 ∷ []) $ free1 ! $ move ! (4 ∷ 7 ∷ []) $ free1 ! $ move ! (4 ∷ 6 ∷ []) $ free1 ! $ move ! (4 ∷ 5 ∷ []) $ free1 ! $ free0 ! $
+            assigns ! (of-opd ! (load ! (from ! (stop !)) (look ! 32 refl))) (from ! (stop !)) (init ! 4 refl (EL.lawful Answer-row.the-type Answer-row′.the-laws 𝓤 H A W tt .typed m _ g .0)) $
+            returns ! (look ! 4 refl) $ forget ! 4 refl $ forget ! 5 refl $ forget ! 6 refl $ forget ! 7 refl $ forget ! 8 refl $ forget ! 32 refl $
+            move ! (4 ∷ 62 ∷ []) $ free1 ! $ move ! (4 ∷ 61 ∷ []) $ free1 ! $ move ! (4 ∷ 60 ∷ []) $ free1 ! $ move ! (4 ∷ 59 ∷ []) $ free1 ! $ move ! (4 ∷ 58 ∷ []) $ free1 ! $ move ! (4 ∷ 57 ∷ []) $ free1 ! $ move ! (4 ∷ 56 ∷ []) $ free1 ! $ move ! (4 ∷ 55 ∷ []) $ free1 ! $ move ! (4 ∷ 54 ∷ []) $ free1 ! $ move ! (4 ∷ 53 ∷ []) $ free1 ! $ move ! (4 ∷ 52 ∷ []) $ free1 ! $ move ! (4 ∷ 51 ∷ []) $ free1 ! $ move ! (4 ∷ 50 ∷ []) $ free1 ! $ move ! (4 ∷ 49 ∷ []) $ free1 ! $ move ! (4 ∷ 48 ∷ []) $ free1 ! $ move ! (4 ∷ 47 ∷ []) $ free1 ! $ move ! (4 ∷ 46 ∷ []) $ free1 ! $ move ! (4 ∷ 45 ∷ []) $ free1 ! $ move ! (4 ∷ 44 ∷ []) $ free1 ! $ move ! (4 ∷ 43 ∷ []) $ free1 ! $ move ! (4 ∷ 42 ∷ []) $ free1 ! $ move ! (4 ∷ 41 ∷ []) $ free1 ! $ move ! (4 ∷ 40 ∷ []) $ free1 ! $ move ! (4 ∷ 39 ∷ []) $ free1 ! $ move ! (4 ∷ 38 ∷ []) $ free1 ! $ move ! (4 ∷ 37 ∷ []) $ free1 ! $ move ! (4 ∷ 36 ∷ []) $ free1 ! $ move ! (4 ∷ 35 ∷ []) $ free1 ! $ move ! (4 ∷ 34 ∷ []) $ free1 ! $ move ! (4 ∷ 33 ∷ []) $ free1 ! $ move ! (4 ∷ 32 ∷ []) $ free1 ! $ move ! (4 ∷ 31 ∷ []) $ free1 ! $ move ! (4 ∷ 30 ∷ []) $ free1 ! $ move ! (4 ∷ 29 ∷ []) $ free1 ! $ move ! (4 ∷ 28 ∷ []) $ free1 ! $ move ! (4 ∷ 27 ∷ []) $ free1 ! $ move ! (4 ∷ 26 ∷ []) $ free1 ! $ move ! (4 ∷ 25 ∷ []) $ free1 ! $ move ! (4 ∷ 24 ∷ []) $ free1 ! $ move ! (4 ∷ 23 ∷ []) $ free1 ! $ move ! (4 ∷ 22 ∷ []) $ free1 ! $ move ! (4 ∷ 21 ∷ []) $ free1 ! $ move ! (4 ∷ 20 ∷ []) $ free1 ! $ move ! (4 ∷ 19 ∷ []) $ free1 ! $ move ! (4 ∷ 18 ∷ []) $ free1 ! $ move ! (4 ∷ 17 ∷ []) $ free1 ! $ move ! (4 ∷ 16 ∷ []) $ free1 ! $ move ! (4 ∷ 15 ∷ []) $ free1 ! $ move ! (4 ∷ 14 ∷ []) $ free1 ! $ move ! (4 ∷ 13 ∷ []) $ free1 ! $ move ! (4 ∷ 12 ∷ []) $ free1 ! $ move ! (4 ∷ 11 ∷ []) $ free1 ! $ move ! (4 ∷ 10 ∷ []) $ free1 ! $ move ! (4 ∷ 9 ∷ []) $ free1 ! $ move ! (4 ∷ 8 ∷ []) $ free1 ! $ move ! (4 ∷ 7 ∷ []) $ free1 ! $ move ! (4 ∷ 6 ∷ []) $ free1 ! $ move ! (4 ∷ 5 ∷ []) $ free1 ! $ free0 ! $
             by ! (exits call call-is c m zs e g l)
 
         -- what `Reset` changes is carried out
-        carried-reset : {y2 y33 : Val} (x : Change) → Is S.the-row x (LL.val S.the-type S′.the-laws x ∷ []) → changed h x ≡ doneOf (stepOf h (stepFor call (bytesIn f) room)) → (zs : List ℕ) → zs ≡ roomFor h call room → length zs ≡ length room → Sq W (‵ (fobs γ (T.the-row .coded .code h)) ∷ ‵ (fbor κ (Body (mem T.the-row) b o γ)) ∷ ‵ (flft κ q) ∷ ‵ (flft κ-room q-room) ∷ ‵ (finally u8 γ-room zs) ∷ ‵ (froom Answer-row′.mir l0 0) ∷ ‵ (fat fullShare (tyRef (named 0) mut rec-ty) l1 0 (vptr b o)) ∷ ‵ (fat fullShare Call-row′.mir l2 0 y2) ∷ ‵ (fat fullShare Frame-row′.mir l3 0 (LL.val Frame-row.the-type Frame-row′.the-laws f)) ∷ ‵ (fat fullShare (sliceTy (tyRef (named 1) mut (tyInt w8))) l4 0 s-room) ∷ ‵ (fat fullShare out-ty l5 0 (LL.val S.the-type S′.the-laws x)) ∷ ‵ (froom (tyInt w8) l6 0) ∷ ‵ (froom Control-row′.mir l7 0) ∷ ‵ (froom (tyInt w64) l8 0) ∷ ‵ (froom Row′.mir l9 0) ∷ ‵ (froom (tyInt w8) l10 0) ∷ ‵ (froom (tyInt w8) l11 0) ∷ ‵ (froom Control-row′.mir l12 0) ∷ ‵ (froom (tyInt w64) l13 0) ∷ ‵ (froom Row′.mir l14 0) ∷ ‵ (froom out-ty l15 0) ∷ ‵ (froom Sync-row′.mir l16 0) ∷ ‵ (froom out-ty l17 0) ∷ ‵ (froom out-ty l18 0) ∷ ‵ (froom (tyInt w8) l19 0) ∷ ‵ (froom Ruling-row′.mir l20 0) ∷ ‵ (froom (tyInt w64) l21 0) ∷ ‵ (froom Row′.mir l22 0) ∷ ‵ (froom out-ty l23 0) ∷ ‵ (froom tyBool l24 0) ∷ ‵ (froom Ruling-row′.mir l25 0) ∷ ‵ (froom (tyInt w64) l26 0) ∷ ‵ (froom Row′.mir l27 0) ∷ ‵ (froom out-ty l28 0) ∷ ‵ (froom Fault-row′.mir l29 0) ∷ ‵ (froom out-ty l30 0) ∷ ‵ (froom out-ty l31 0) ∷ ‵ (froom Answer-row′.mir l32 0) ∷ ‵ (fat fullShare T′.mir l33 0 y33) ∷ ‵ (froom (tyRef erased mut rec-ty) l34 0) ∷ ‵ (froom (tyInt w64) l35 0) ∷ ‵ (froom tyPtr l36 0) ∷ ‵ (froom tyPtr l37 0) ∷ ‵ (froom Row′.mir l38 0) ∷ ‵ (froom (tyInt w64) l39 0) ∷ ‵ (froom tyPtr l40 0) ∷ ‵ (froom tyPtr l41 0) ∷ ‵ (froom Row′.mir l42 0) ∷ ‵ (froom (tyRef erased mut rec-ty) l43 0) ∷ ‵ (froom T′.mir l44 0) ∷ ‵ (froom (tyRef erased mut rec-ty) l45 0) ∷ ‵ (froom T′.mir l46 0) ∷ ‵ (froom (tyRef erased mut rec-ty) l47 0) ∷ ‵ (froom T′.mir l48 0) ∷ ‵ (froom (tyInt w64) l49 0) ∷ ‵ (froom tyPtr l50 0) ∷ ‵ (froom tyPtr l51 0) ∷ ‵ (froom Row′.mir l52 0) ∷ ‵ (froom (tyRef erased mut (tyInt w8)) l53 0) ∷ ‵ (froom (sliceTy (tyRef erased mut (tyInt w8))) l54 0) ∷ ‵ (froom (tyRef erased mut rec-ty) l55 0) ∷ ‵ (froom T′.mir l56 0) ∷ ‵ (froom (tyInt w64) l57 0) ∷ ‵ (froom tyPtr l58 0) ∷ ‵ (froom tyPtr l59 0) ∷ ‵ (froom Row′.mir l60 0) ∷ ‵ (froom (tyRef erased mut rec-ty) l61 0) ∷ ‵ (froom T′.mir l62 0) ∷ ‵ (froom (tyRef erased mut rec-ty) l63 0) ∷ ‵ (froom T′.mir l64 0) ∷ ‵ (froom (tyRef erased mut rec-ty) l65 0) ∷ Dies) (runs C Λ En (carrying 34 5) (anyQ (Next call)))
+        carried-reset : {y2 y29 : Val} (x : Change) → Is S.the-row x (LL.val S.the-type S′.the-laws x ∷ []) → changed h x ≡ doneOf (stepOf h (stepFor call (bytesIn f) room)) → (zs : List ℕ) → zs ≡ roomFor h call room → length zs ≡ length room → Sq W (‵ (fobs γ (T.the-row .coded .code h)) ∷ ‵ (fbor κ (Body (mem T.the-row) b o γ)) ∷ ‵ (flft κ q) ∷ ‵ (flft κ-room q-room) ∷ ‵ (finally u8 γ-room zs) ∷ ‵ (froom Answer-row′.mir l0 0) ∷ ‵ (fat fullShare (tyRef (named 0) mut rec-ty) l1 0 (vptr b o)) ∷ ‵ (fat fullShare Call-row′.mir l2 0 y2) ∷ ‵ (fat fullShare Frame-row′.mir l3 0 (LL.val Frame-row.the-type Frame-row′.the-laws f)) ∷ ‵ (fat fullShare (sliceTy (tyRef (named 1) mut (tyInt w8))) l4 0 s-room) ∷ ‵ (fat fullShare out-ty l5 0 (LL.val S.the-type S′.the-laws x)) ∷ ‵ (froom (tyInt w8) l6 0) ∷ ‵ (froom Control-row′.mir l7 0) ∷ ‵ (froom (tyInt w64) l8 0) ∷ ‵ (froom Row′.mir l9 0) ∷ ‵ (froom (tyInt w8) l10 0) ∷ ‵ (froom (tyInt w8) l11 0) ∷ ‵ (froom Sync-row′.mir l12 0) ∷ ‵ (froom out-ty l13 0) ∷ ‵ (froom out-ty l14 0) ∷ ‵ (froom (tyInt w8) l15 0) ∷ ‵ (froom Ruling-row′.mir l16 0) ∷ ‵ (froom (tyInt w64) l17 0) ∷ ‵ (froom Row′.mir l18 0) ∷ ‵ (froom out-ty l19 0) ∷ ‵ (froom tyBool l20 0) ∷ ‵ (froom Ruling-row′.mir l21 0) ∷ ‵ (froom (tyInt w64) l22 0) ∷ ‵ (froom Row′.mir l23 0) ∷ ‵ (froom out-ty l24 0) ∷ ‵ (froom Fault-row′.mir l25 0) ∷ ‵ (froom out-ty l26 0) ∷ ‵ (froom out-ty l27 0) ∷ ‵ (froom Answer-row′.mir l28 0) ∷ ‵ (fat fullShare T′.mir l29 0 y29) ∷ ‵ (froom (tyRef erased mut rec-ty) l30 0) ∷ ‵ (froom (tyInt w64) l31 0) ∷ ‵ (froom tyPtr l32 0) ∷ ‵ (froom tyPtr l33 0) ∷ ‵ (froom Row′.mir l34 0) ∷ ‵ (froom (tyRef erased mut rec-ty) l35 0) ∷ ‵ (froom T′.mir l36 0) ∷ ‵ (froom (tyRef erased mut rec-ty) l37 0) ∷ ‵ (froom T′.mir l38 0) ∷ ‵ (froom (tyRef erased mut rec-ty) l39 0) ∷ ‵ (froom T′.mir l40 0) ∷ ‵ (froom (tyInt w64) l41 0) ∷ ‵ (froom tyPtr l42 0) ∷ ‵ (froom tyPtr l43 0) ∷ ‵ (froom Row′.mir l44 0) ∷ ‵ (froom (tyRef erased mut (tyInt w8)) l45 0) ∷ ‵ (froom (sliceTy (tyRef erased mut (tyInt w8))) l46 0) ∷ ‵ (froom (tyRef erased mut rec-ty) l47 0) ∷ ‵ (froom T′.mir l48 0) ∷ ‵ (froom (tyInt w64) l49 0) ∷ ‵ (froom tyPtr l50 0) ∷ ‵ (froom tyPtr l51 0) ∷ ‵ (froom Row′.mir l52 0) ∷ ‵ (froom (tyRef erased mut rec-ty) l53 0) ∷ ‵ (froom T′.mir l54 0) ∷ ‵ (froom (tyRef erased mut rec-ty) l55 0) ∷ ‵ (froom T′.mir l56 0) ∷ ‵ (froom (tyRef erased mut rec-ty) l57 0) ∷ Dies) (runs C Λ En (carrying 30 5) (anyQ (Next call)))
         carried-reset x x-is e zs z l =
-            assigns ! (addr ! (from ! (hop ! (look ! 6 refl) (stop !)))) (from ! (stop !)) (init ! 39 refl (tt, tt)) $
+            assigns ! (addr ! (from ! (hop ! (look ! 6 refl) (stop !)))) (from ! (stop !)) (init ! 35 refl (tt, tt)) $
             group ! 3 $ use1 W (raw ((Carries 𝓤 H A at-mem run) .pre (to-carry x))) (asked-carry x x-is) $
-            calls-at-last ! fm (Carries 𝓤 H A at-mem run) known-carries (to-carry x) (and-then ! (load ! (from ! (stop !)) (look ! 37 refl)) (and-then ! (load ! (from ! (stop !)) (look ! 8 refl)) (no-more !))) (λ v.
+            calls-at-last ! fm (Carries 𝓤 H A at-mem run) known-carries (to-carry x) (and-then ! (load ! (from ! (stop !)) (look ! 33 refl)) (and-then ! (load ! (from ! (stop !)) (look ! 8 refl)) (no-more !))) (λ v.
             use1 W (later (some (λ (m : Answer). ((‵ (flft κ q) ⊛ ‵ ftrue) ⊛ ‵ (Answer-row.the-row .own m (v ∷ []))) ⊛ raw (ensured 𝓤 H A carries.ended (carries.clauses 𝓤 H A at-mem run) (κ, tt) (args-carry x) tt m)))) (id⊢ 𝓤 _) $ await ! tt $ pick ! (λ m.
             split ! $ move ! (1 ∷ []) $ use1 W (some (λ (ws : Lasts carries.ended (κ, tt) (args-carry x)). ‵ (lasts carries.ended (κ, tt) (args-carry x) ws) ⊛ raw (fact 𝓤 ((ws .0 ≡ changed h x .next) × (m ≡ x .answer))))) (id⊢ 𝓤 _) $ pick ! (λ ws.
             split ! $ move ! (1 ∷ []) $ heard ! ((ws .0 ≡ changed h x .next) × (m ≡ x .answer)) (λ d. fsplit ! $
             move ! (2 ∷ []) $ split ! $ move ! (1 ∷ []) $ peeks ! Answer-row.the-row (Is Answer-row.the-row) (shows 𝓤 H A Answer-row.the-row) m (v ∷ []) (λ is. drop ! $ split ! $
-            land-last ! (from ! (stop !)) (init ! 38 refl (EL.lawful Answer-row.the-type Answer-row′.the-laws 𝓤 H A W tt .typed m _ is .0)) $ rewrite ! 38 (λ (u : Val). ‵ (fat fullShare Answer-row′.mir l32 0 u)) (ap only (EL.tells Answer-row.the-type Answer-row′.the-laws m _ is)) refl $
-            exec ! C Λ En pieces.t-2 (atRet En (Post call)) $ forget ! 11 refl $ forget ! 39 refl $ forget ! 40 refl $
-            keep ! (2 ∷ 0 ∷ 4 ∷ 5 ∷ 6 ∷ 7 ∷ 8 ∷ 9 ∷ 10 ∷ 11 ∷ 12 ∷ 13 ∷ 14 ∷ 15 ∷ 16 ∷ 17 ∷ 18 ∷ 19 ∷ 20 ∷ 21 ∷ 22 ∷ 23 ∷ 24 ∷ 25 ∷ 26 ∷ 27 ∷ 28 ∷ 29 ∷ 30 ∷ 31 ∷ 32 ∷ 33 ∷ 34 ∷ 35 ∷ 36 ∷ 37 ∷ 38 ∷ 39 ∷ 40 ∷ 41 ∷ 42 ∷ 43 ∷ 44 ∷ 45 ∷ 46 ∷ 47 ∷ 48 ∷ 49 ∷ 50 ∷ 51 ∷ 52 ∷ 53 ∷ 54 ∷ 55 ∷ 56 ∷ 57 ∷ 58 ∷ 59 ∷ 60 ∷ 61 ∷ 62 ∷ 63 ∷ 64 ∷ 65 ∷ 66 ∷ 67 ∷ 68 ∷ 69 ∷ 70 ∷ 71 ∷ 72 ∷ 73 ∷ 74 ∷ 75 ∷ 76 ∷ 77 ∷ 78 ∷ 79 ∷ 80 ∷ 81 ∷ 82 ∷ 83 ∷ 84 ∷ 85 ∷ 86 ∷ 87 ∷ 88 ∷ 89 ∷ 90 ∷ 91 ∷ 92 ∷ 93 ∷ 94 ∷ 95 ∷ 96 ∷ 97 ∷ 98 ∷ 99 ∷ 100 ∷ 101 ∷ 102 ∷ 103 ∷ 104 ∷ 105 ∷ 106 ∷ 107 ∷ 108 ∷ 109 ∷ 110 ∷ 111 ∷ 112 ∷ 113 ∷ 114 ∷ 115 ∷ 116 ∷ 117 ∷ 118 ∷ 119 ∷ 120 ∷ 121 ∷ 122 ∷ 123 ∷ 124 ∷ 125 ∷ 126 ∷ 127 ∷ 128 ∷ 129 ∷ 130 ∷ 131 ∷ 132 ∷ 133 ∷ 134 ∷ 135 ∷ 136 ∷ 137 ∷ []) $ answered (ws .0) m zs (d .0 ∙ ap (λ (u : Done). u .next) e, d .1 ∙ ap (λ (u : Done). u .answer) e, z) (answer-is m _ is) l)))))
+            land-last ! (from ! (stop !)) (init ! 34 refl (EL.lawful Answer-row.the-type Answer-row′.the-laws 𝓤 H A W tt .typed m _ is .0)) $ rewrite ! 34 (λ (u : Val). ‵ (fat fullShare Answer-row′.mir l28 0 u)) (ap only (EL.tells Answer-row.the-type Answer-row′.the-laws m _ is)) refl $
+            exec ! C Λ En pieces.t-2 (atRet En (Post call)) $ forget ! 11 refl $ forget ! 35 refl $ forget ! 36 refl $
+            keep ! (2 ∷ 0 ∷ 4 ∷ 5 ∷ 6 ∷ 7 ∷ 8 ∷ 9 ∷ 10 ∷ 11 ∷ 12 ∷ 13 ∷ 14 ∷ 15 ∷ 16 ∷ 17 ∷ 18 ∷ 19 ∷ 20 ∷ 21 ∷ 22 ∷ 23 ∷ 24 ∷ 25 ∷ 26 ∷ 27 ∷ 28 ∷ 29 ∷ 30 ∷ 31 ∷ 32 ∷ 33 ∷ 34 ∷ 35 ∷ 36 ∷ 37 ∷ 38 ∷ 39 ∷ 40 ∷ 41 ∷ 42 ∷ 43 ∷ 44 ∷ 45 ∷ 46 ∷ 47 ∷ 48 ∷ 49 ∷ 50 ∷ 51 ∷ 52 ∷ 53 ∷ 54 ∷ 55 ∷ 56 ∷ 57 ∷ 58 ∷ 59 ∷ 60 ∷ 61 ∷ 62 ∷ 63 ∷ 64 ∷ 65 ∷ 66 ∷ 67 ∷ 68 ∷ 69 ∷ 70 ∷ 71 ∷ 72 ∷ 73 ∷ 74 ∷ 75 ∷ 76 ∷ 77 ∷ 78 ∷ 79 ∷ 80 ∷ 81 ∷ 82 ∷ 83 ∷ 84 ∷ 85 ∷ 86 ∷ 87 ∷ 88 ∷ 89 ∷ 90 ∷ 91 ∷ 92 ∷ 93 ∷ 94 ∷ 95 ∷ 96 ∷ 97 ∷ 98 ∷ 99 ∷ 100 ∷ 101 ∷ 102 ∷ 103 ∷ 104 ∷ 105 ∷ 106 ∷ 107 ∷ 108 ∷ 109 ∷ 110 ∷ 111 ∷ 112 ∷ 113 ∷ 114 ∷ 115 ∷ 116 ∷ 117 ∷ 118 ∷ 119 ∷ 120 ∷ 121 ∷ []) $ answered (ws .0) m zs (d .0 ∙ ap (λ (u : Done). u .next) e, d .1 ∙ ap (λ (u : Done). u .answer) e, z) (answer-is m _ is) l)))))
 
         -- Reset
-        on-reset : {y2 : Val} → reset ≡ stepFor call (bytesIn f) room → room ≡ roomFor h call room → Sq W (‵ Rec ∷ ‵ (flft κ q) ∷ ‵ Room′ ∷ ‵ (flft κ-room q-room) ∷ ‵ (froom Answer-row′.mir l0 0) ∷ ‵ (fat fullShare (tyRef (named 0) mut rec-ty) l1 0 (vptr b o)) ∷ ‵ (fat fullShare Call-row′.mir l2 0 y2) ∷ ‵ (fat fullShare Frame-row′.mir l3 0 (LL.val Frame-row.the-type Frame-row′.the-laws f)) ∷ ‵ (fat fullShare (sliceTy (tyRef (named 1) mut (tyInt w8))) l4 0 s-room) ∷ ‵ (froom out-ty l5 0) ∷ ‵ (froom (tyInt w8) l6 0) ∷ ‵ (froom Control-row′.mir l7 0) ∷ ‵ (froom (tyInt w64) l8 0) ∷ ‵ (froom Row′.mir l9 0) ∷ ‵ (froom (tyInt w8) l10 0) ∷ ‵ (froom (tyInt w8) l11 0) ∷ ‵ (froom Control-row′.mir l12 0) ∷ ‵ (froom (tyInt w64) l13 0) ∷ ‵ (froom Row′.mir l14 0) ∷ ‵ (froom out-ty l15 0) ∷ ‵ (froom Sync-row′.mir l16 0) ∷ ‵ (froom out-ty l17 0) ∷ ‵ (froom out-ty l18 0) ∷ ‵ (froom (tyInt w8) l19 0) ∷ ‵ (froom Ruling-row′.mir l20 0) ∷ ‵ (froom (tyInt w64) l21 0) ∷ ‵ (froom Row′.mir l22 0) ∷ ‵ (froom out-ty l23 0) ∷ ‵ (froom tyBool l24 0) ∷ ‵ (froom Ruling-row′.mir l25 0) ∷ ‵ (froom (tyInt w64) l26 0) ∷ ‵ (froom Row′.mir l27 0) ∷ ‵ (froom out-ty l28 0) ∷ ‵ (froom Fault-row′.mir l29 0) ∷ ‵ (froom out-ty l30 0) ∷ ‵ (froom out-ty l31 0) ∷ ‵ (froom Answer-row′.mir l32 0) ∷ ‵ (froom T′.mir l33 0) ∷ ‵ (froom (tyRef erased mut rec-ty) l34 0) ∷ ‵ (froom (tyInt w64) l35 0) ∷ ‵ (froom tyPtr l36 0) ∷ ‵ (froom tyPtr l37 0) ∷ ‵ (froom Row′.mir l38 0) ∷ ‵ (froom (tyInt w64) l39 0) ∷ ‵ (froom tyPtr l40 0) ∷ ‵ (froom tyPtr l41 0) ∷ ‵ (froom Row′.mir l42 0) ∷ ‵ (froom (tyRef erased mut rec-ty) l43 0) ∷ ‵ (froom T′.mir l44 0) ∷ ‵ (froom (tyRef erased mut rec-ty) l45 0) ∷ ‵ (froom T′.mir l46 0) ∷ ‵ (froom (tyRef erased mut rec-ty) l47 0) ∷ ‵ (froom T′.mir l48 0) ∷ ‵ (froom (tyInt w64) l49 0) ∷ ‵ (froom tyPtr l50 0) ∷ ‵ (froom tyPtr l51 0) ∷ ‵ (froom Row′.mir l52 0) ∷ ‵ (froom (tyRef erased mut (tyInt w8)) l53 0) ∷ ‵ (froom (sliceTy (tyRef erased mut (tyInt w8))) l54 0) ∷ ‵ (froom (tyRef erased mut rec-ty) l55 0) ∷ ‵ (froom T′.mir l56 0) ∷ ‵ (froom (tyInt w64) l57 0) ∷ ‵ (froom tyPtr l58 0) ∷ ‵ (froom tyPtr l59 0) ∷ ‵ (froom Row′.mir l60 0) ∷ ‵ (froom (tyRef erased mut rec-ty) l61 0) ∷ ‵ (froom T′.mir l62 0) ∷ ‵ (froom (tyRef erased mut rec-ty) l63 0) ∷ ‵ (froom T′.mir l64 0) ∷ ‵ (froom (tyRef erased mut rec-ty) l65 0) ∷ Dies) (runs C Λ En code-reset (anyQ (Next call)))
+        on-reset : {y2 : Val} → reset ≡ stepFor call (bytesIn f) room → room ≡ roomFor h call room → Sq W (‵ Rec ∷ ‵ (flft κ q) ∷ ‵ Room′ ∷ ‵ (flft κ-room q-room) ∷ ‵ (froom Answer-row′.mir l0 0) ∷ ‵ (fat fullShare (tyRef (named 0) mut rec-ty) l1 0 (vptr b o)) ∷ ‵ (fat fullShare Call-row′.mir l2 0 y2) ∷ ‵ (fat fullShare Frame-row′.mir l3 0 (LL.val Frame-row.the-type Frame-row′.the-laws f)) ∷ ‵ (fat fullShare (sliceTy (tyRef (named 1) mut (tyInt w8))) l4 0 s-room) ∷ ‵ (froom out-ty l5 0) ∷ ‵ (froom (tyInt w8) l6 0) ∷ ‵ (froom Control-row′.mir l7 0) ∷ ‵ (froom (tyInt w64) l8 0) ∷ ‵ (froom Row′.mir l9 0) ∷ ‵ (froom (tyInt w8) l10 0) ∷ ‵ (froom (tyInt w8) l11 0) ∷ ‵ (froom Sync-row′.mir l12 0) ∷ ‵ (froom out-ty l13 0) ∷ ‵ (froom out-ty l14 0) ∷ ‵ (froom (tyInt w8) l15 0) ∷ ‵ (froom Ruling-row′.mir l16 0) ∷ ‵ (froom (tyInt w64) l17 0) ∷ ‵ (froom Row′.mir l18 0) ∷ ‵ (froom out-ty l19 0) ∷ ‵ (froom tyBool l20 0) ∷ ‵ (froom Ruling-row′.mir l21 0) ∷ ‵ (froom (tyInt w64) l22 0) ∷ ‵ (froom Row′.mir l23 0) ∷ ‵ (froom out-ty l24 0) ∷ ‵ (froom Fault-row′.mir l25 0) ∷ ‵ (froom out-ty l26 0) ∷ ‵ (froom out-ty l27 0) ∷ ‵ (froom Answer-row′.mir l28 0) ∷ ‵ (froom T′.mir l29 0) ∷ ‵ (froom (tyRef erased mut rec-ty) l30 0) ∷ ‵ (froom (tyInt w64) l31 0) ∷ ‵ (froom tyPtr l32 0) ∷ ‵ (froom tyPtr l33 0) ∷ ‵ (froom Row′.mir l34 0) ∷ ‵ (froom (tyRef erased mut rec-ty) l35 0) ∷ ‵ (froom T′.mir l36 0) ∷ ‵ (froom (tyRef erased mut rec-ty) l37 0) ∷ ‵ (froom T′.mir l38 0) ∷ ‵ (froom (tyRef erased mut rec-ty) l39 0) ∷ ‵ (froom T′.mir l40 0) ∷ ‵ (froom (tyInt w64) l41 0) ∷ ‵ (froom tyPtr l42 0) ∷ ‵ (froom tyPtr l43 0) ∷ ‵ (froom Row′.mir l44 0) ∷ ‵ (froom (tyRef erased mut (tyInt w8)) l45 0) ∷ ‵ (froom (sliceTy (tyRef erased mut (tyInt w8))) l46 0) ∷ ‵ (froom (tyRef erased mut rec-ty) l47 0) ∷ ‵ (froom T′.mir l48 0) ∷ ‵ (froom (tyInt w64) l49 0) ∷ ‵ (froom tyPtr l50 0) ∷ ‵ (froom tyPtr l51 0) ∷ ‵ (froom Row′.mir l52 0) ∷ ‵ (froom (tyRef erased mut rec-ty) l53 0) ∷ ‵ (froom T′.mir l54 0) ∷ ‵ (froom (tyRef erased mut rec-ty) l55 0) ∷ ‵ (froom T′.mir l56 0) ∷ ‵ (froom (tyRef erased mut rec-ty) l57 0) ∷ Dies) (runs C Λ En code-reset (anyQ (Next call)))
         on-reset s z =
             fsplit3 ! $ drop ! $
             opens ! tt T.the-row {h = h} b o (λ vs. spelt ! T.the-row (Is T.the-row) (shows 𝓤 H A T.the-row) (LL.vals T.the-type T′.the-laws) (LL.tells T.the-type T′.the-laws) fullShare h vs b o $
             move ! (1 ∷ []) $ peeks ! T.the-row (Is T.the-row) (shows 𝓤 H A T.the-row) h (mach h ∷ []) (λ was.
-            assigns ! (of-opd ! (load ! (from ! (hop ! (look ! 8 refl) (stop !))) (look-raw ! 1 refl))) (from ! (stop !)) (init ! 40 refl (LL.lawful T.the-type T′.the-laws 𝓤 H A W .typed h _ was .0)) $
+            assigns ! (of-opd ! (load ! (from ! (hop ! (look ! 8 refl) (stop !))) (look-raw ! 1 refl))) (from ! (stop !)) (init ! 36 refl (LL.lawful T.the-type T′.the-laws 𝓤 H A W .typed h _ was .0)) $
             move ! (1 ∷ 0 ∷ 2 ∷ 3 ∷ 4 ∷ []) $ closes ! tt T.the-row h (mach h ∷ []) b o $
             move ! (3 ∷ []) $ fsplit ! $ move ! (1 ∷ []) $ fsplit ! $
             use1 W (‵ (fres γ-room (codedHoleys u8 .code (heres u8 room)))) (W .names .obs-res γ-room (codedHoleys u8 .code (heres u8 room))) $ use1 W (‵ (finally u8 γ-room room)) (res-finally 𝓤 H A W (named 1) κ-room u8 γ-room room) $
             use0 W (raw ((Resets 𝓤 H A at-mem run) .pre to-reset)) (asked-reset was) $
-            calls-at ! fm (Resets 𝓤 H A at-mem run) known-resets to-reset (and-then ! (load ! (from ! (stop !)) (look ! 41 refl)) (no-more !)) (λ v.
+            calls-at ! fm (Resets 𝓤 H A at-mem run) known-resets to-reset (and-then ! (load ! (from ! (stop !)) (look ! 37 refl)) (no-more !)) (λ v.
             use1 W (later (some (λ (x : Change). (‵ ftrue ⊛ ‵ (S.the-row .own x (v ∷ []))) ⊛ raw (ensured 𝓤 H A resets.ended (resets.clauses 𝓤 H A at-mem run) tt args-reset tt x)))) (id⊢ 𝓤 _) $ await ! tt $ pick ! (λ x.
             split ! $ move ! (1 ∷ []) $ use1 W (some (λ (ws : Lasts resets.ended tt args-reset). ‵ (lasts resets.ended tt args-reset ws) ⊛ raw (fact 𝓤 (changed h x ≡ doneOf (stepOf h (reset)))))) (id⊢ 𝓤 _) $ pick ! (λ ws.
             split ! $ move ! (1 ∷ []) $ heard ! (changed h x ≡ doneOf (stepOf h (reset))) (λ e. drop ! $ split ! $ drop ! $
             peeks ! S.the-row (Is S.the-row) (shows 𝓤 H A S.the-row) x (v ∷ []) (λ is. drop ! $
             land ! (from ! (stop !)) (init ! 12 refl (LL.lawful S.the-type S′.the-laws 𝓤 H A W .typed x _ is .0)) $ rewrite ! 12 (λ (u : Val). ‵ (fat fullShare out-ty l5 0 u)) (ap only (LL.tells S.the-type S′.the-laws x _ is)) refl $
-            keep ! (3 ∷ 4 ∷ 5 ∷ 6 ∷ 0 ∷ 7 ∷ 8 ∷ 9 ∷ 10 ∷ 11 ∷ 12 ∷ 13 ∷ 14 ∷ 15 ∷ 16 ∷ 17 ∷ 18 ∷ 19 ∷ 20 ∷ 21 ∷ 22 ∷ 23 ∷ 24 ∷ 25 ∷ 26 ∷ 27 ∷ 28 ∷ 29 ∷ 30 ∷ 31 ∷ 32 ∷ 33 ∷ 34 ∷ 35 ∷ 36 ∷ 37 ∷ 38 ∷ 39 ∷ 40 ∷ 41 ∷ 42 ∷ 43 ∷ 44 ∷ 45 ∷ 46 ∷ 47 ∷ 48 ∷ 49 ∷ 50 ∷ 51 ∷ 52 ∷ 53 ∷ 54 ∷ 55 ∷ 56 ∷ 57 ∷ 58 ∷ 59 ∷ 60 ∷ 61 ∷ 62 ∷ 63 ∷ 64 ∷ 65 ∷ 66 ∷ 67 ∷ 68 ∷ 69 ∷ 70 ∷ 71 ∷ 72 ∷ 73 ∷ 74 ∷ 75 ∷ 76 ∷ 77 ∷ 78 ∷ 79 ∷ 80 ∷ 81 ∷ 82 ∷ 83 ∷ 84 ∷ 85 ∷ 86 ∷ 87 ∷ 88 ∷ 89 ∷ 90 ∷ 91 ∷ 92 ∷ 93 ∷ 94 ∷ 95 ∷ 96 ∷ 97 ∷ 98 ∷ 99 ∷ 100 ∷ 101 ∷ 102 ∷ 103 ∷ 104 ∷ 105 ∷ 106 ∷ 107 ∷ 108 ∷ 109 ∷ 110 ∷ 111 ∷ 112 ∷ 113 ∷ 114 ∷ 115 ∷ 116 ∷ 117 ∷ 118 ∷ 119 ∷ 120 ∷ 121 ∷ 122 ∷ 123 ∷ 124 ∷ 125 ∷ 126 ∷ 127 ∷ 128 ∷ 129 ∷ 130 ∷ 131 ∷ 132 ∷ 133 ∷ 134 ∷ 135 ∷ 136 ∷ 137 ∷ 138 ∷ []) $ carried-reset x (change-is x _ is) (e ∙ ap (λ (s : Step). doneOf (stepOf h s)) s) room z refl)))))))
+            keep ! (3 ∷ 4 ∷ 5 ∷ 6 ∷ 0 ∷ 7 ∷ 8 ∷ 9 ∷ 10 ∷ 11 ∷ 12 ∷ 13 ∷ 14 ∷ 15 ∷ 16 ∷ 17 ∷ 18 ∷ 19 ∷ 20 ∷ 21 ∷ 22 ∷ 23 ∷ 24 ∷ 25 ∷ 26 ∷ 27 ∷ 28 ∷ 29 ∷ 30 ∷ 31 ∷ 32 ∷ 33 ∷ 34 ∷ 35 ∷ 36 ∷ 37 ∷ 38 ∷ 39 ∷ 40 ∷ 41 ∷ 42 ∷ 43 ∷ 44 ∷ 45 ∷ 46 ∷ 47 ∷ 48 ∷ 49 ∷ 50 ∷ 51 ∷ 52 ∷ 53 ∷ 54 ∷ 55 ∷ 56 ∷ 57 ∷ 58 ∷ 59 ∷ 60 ∷ 61 ∷ 62 ∷ 63 ∷ 64 ∷ 65 ∷ 66 ∷ 67 ∷ 68 ∷ 69 ∷ 70 ∷ 71 ∷ 72 ∷ 73 ∷ 74 ∷ 75 ∷ 76 ∷ 77 ∷ 78 ∷ 79 ∷ 80 ∷ 81 ∷ 82 ∷ 83 ∷ 84 ∷ 85 ∷ 86 ∷ 87 ∷ 88 ∷ 89 ∷ 90 ∷ 91 ∷ 92 ∷ 93 ∷ 94 ∷ 95 ∷ 96 ∷ 97 ∷ 98 ∷ 99 ∷ 100 ∷ 101 ∷ 102 ∷ 103 ∷ 104 ∷ 105 ∷ 106 ∷ 107 ∷ 108 ∷ 109 ∷ 110 ∷ 111 ∷ 112 ∷ 113 ∷ 114 ∷ 115 ∷ 116 ∷ 117 ∷ 118 ∷ 119 ∷ 120 ∷ 121 ∷ 122 ∷ []) $ carried-reset x (change-is x _ is) (e ∙ ap (λ (s : Step). doneOf (stepOf h s)) s) room z refl)))))))
 
         -- what is made of the row
-        making-read : {y2 y8 y35 y36 y37 y38 : Val} (n : ℕ) → n < 2 ^ 8 → Is Control-row.the-row (h .control) (LL.val Control-row.the-type Control-row′.the-laws (h .control) ∷ []) → read n ≡ stepFor call (bytesIn f) room → room ≡ roomFor h call room → (i : ℕ) → i ≡ windowRow (h .control) (registerAt n) → length (h .rows) ≡ 16 → Is Row.the-row (rowAt (h .rows) i) (LL.val Row.the-type Row′.the-laws (rowAt (h .rows) i) ∷ []) → Sq W (‵ (fobs γ (T.the-row .coded .code h)) ∷ ‵ (fbor κ (Body (mem T.the-row) b o γ)) ∷ ‵ (flft κ q) ∷ ‵ (flft κ-room q-room) ∷ ‵ (finally u8 γ-room room) ∷ ‵ (froom Answer-row′.mir l0 0) ∷ ‵ (fat fullShare (tyRef (named 0) mut rec-ty) l1 0 (vptr b o)) ∷ ‵ (fat fullShare Call-row′.mir l2 0 y2) ∷ ‵ (fat fullShare Frame-row′.mir l3 0 (LL.val Frame-row.the-type Frame-row′.the-laws f)) ∷ ‵ (fat fullShare (sliceTy (tyRef (named 1) mut (tyInt w8))) l4 0 s-room) ∷ ‵ (froom out-ty l5 0) ∷ ‵ (fat fullShare (tyInt w8) l6 0 (vint w8 n)) ∷ ‵ (fat fullShare Control-row′.mir l7 0 (LL.val Control-row.the-type Control-row′.the-laws (h .control))) ∷ ‵ (fat fullShare (tyInt w64) l8 0 y8) ∷ ‵ (fat fullShare Row′.mir l9 0 (LL.val Row.the-type Row′.the-laws (rowAt (h .rows) i))) ∷ ‵ (froom (tyInt w8) l10 0) ∷ ‵ (froom (tyInt w8) l11 0) ∷ ‵ (froom Control-row′.mir l12 0) ∷ ‵ (froom (tyInt w64) l13 0) ∷ ‵ (froom Row′.mir l14 0) ∷ ‵ (froom out-ty l15 0) ∷ ‵ (froom Sync-row′.mir l16 0) ∷ ‵ (froom out-ty l17 0) ∷ ‵ (froom out-ty l18 0) ∷ ‵ (froom (tyInt w8) l19 0) ∷ ‵ (froom Ruling-row′.mir l20 0) ∷ ‵ (froom (tyInt w64) l21 0) ∷ ‵ (froom Row′.mir l22 0) ∷ ‵ (froom out-ty l23 0) ∷ ‵ (froom tyBool l24 0) ∷ ‵ (froom Ruling-row′.mir l25 0) ∷ ‵ (froom (tyInt w64) l26 0) ∷ ‵ (froom Row′.mir l27 0) ∷ ‵ (froom out-ty l28 0) ∷ ‵ (froom Fault-row′.mir l29 0) ∷ ‵ (froom out-ty l30 0) ∷ ‵ (froom out-ty l31 0) ∷ ‵ (froom Answer-row′.mir l32 0) ∷ ‵ (froom T′.mir l33 0) ∷ ‵ (froom (tyRef erased mut rec-ty) l34 0) ∷ ‵ (fat fullShare (tyInt w64) l35 0 y35) ∷ ‵ (fat fullShare tyPtr l36 0 y36) ∷ ‵ (fat fullShare tyPtr l37 0 y37) ∷ ‵ (fat fullShare Row′.mir l38 0 y38) ∷ ‵ (froom (tyInt w64) l39 0) ∷ ‵ (froom tyPtr l40 0) ∷ ‵ (froom tyPtr l41 0) ∷ ‵ (froom Row′.mir l42 0) ∷ ‵ (froom (tyRef erased mut rec-ty) l43 0) ∷ ‵ (froom T′.mir l44 0) ∷ ‵ (froom (tyRef erased mut rec-ty) l45 0) ∷ ‵ (froom T′.mir l46 0) ∷ ‵ (froom (tyRef erased mut rec-ty) l47 0) ∷ ‵ (froom T′.mir l48 0) ∷ ‵ (froom (tyInt w64) l49 0) ∷ ‵ (froom tyPtr l50 0) ∷ ‵ (froom tyPtr l51 0) ∷ ‵ (froom Row′.mir l52 0) ∷ ‵ (froom (tyRef erased mut (tyInt w8)) l53 0) ∷ ‵ (froom (sliceTy (tyRef erased mut (tyInt w8))) l54 0) ∷ ‵ (froom (tyRef erased mut rec-ty) l55 0) ∷ ‵ (froom T′.mir l56 0) ∷ ‵ (froom (tyInt w64) l57 0) ∷ ‵ (froom tyPtr l58 0) ∷ ‵ (froom tyPtr l59 0) ∷ ‵ (froom Row′.mir l60 0) ∷ ‵ (froom (tyRef erased mut rec-ty) l61 0) ∷ ‵ (froom T′.mir l62 0) ∷ ‵ (froom (tyRef erased mut rec-ty) l63 0) ∷ ‵ (froom T′.mir l64 0) ∷ ‵ (froom (tyRef erased mut rec-ty) l65 0) ∷ Dies) (runs C Λ En code-making-read (anyQ (Next call)))
+        making-read : {y2 y8 y31 y32 y33 y34 : Val} (n : ℕ) → n < 2 ^ 8 → Is Control-row.the-row (h .control) (LL.val Control-row.the-type Control-row′.the-laws (h .control) ∷ []) → read n ≡ stepFor call (bytesIn f) room → room ≡ roomFor h call room → (i : ℕ) → i ≡ windowRow (h .control) (registerAt n) → length (h .rows) ≡ 16 → Is Row.the-row (rowAt (h .rows) i) (LL.val Row.the-type Row′.the-laws (rowAt (h .rows) i) ∷ []) → Sq W (‵ (fobs γ (T.the-row .coded .code h)) ∷ ‵ (fbor κ (Body (mem T.the-row) b o γ)) ∷ ‵ (flft κ q) ∷ ‵ (flft κ-room q-room) ∷ ‵ (finally u8 γ-room room) ∷ ‵ (froom Answer-row′.mir l0 0) ∷ ‵ (fat fullShare (tyRef (named 0) mut rec-ty) l1 0 (vptr b o)) ∷ ‵ (fat fullShare Call-row′.mir l2 0 y2) ∷ ‵ (fat fullShare Frame-row′.mir l3 0 (LL.val Frame-row.the-type Frame-row′.the-laws f)) ∷ ‵ (fat fullShare (sliceTy (tyRef (named 1) mut (tyInt w8))) l4 0 s-room) ∷ ‵ (froom out-ty l5 0) ∷ ‵ (fat fullShare (tyInt w8) l6 0 (vint w8 n)) ∷ ‵ (fat fullShare Control-row′.mir l7 0 (LL.val Control-row.the-type Control-row′.the-laws (h .control))) ∷ ‵ (fat fullShare (tyInt w64) l8 0 y8) ∷ ‵ (fat fullShare Row′.mir l9 0 (LL.val Row.the-type Row′.the-laws (rowAt (h .rows) i))) ∷ ‵ (froom (tyInt w8) l10 0) ∷ ‵ (froom (tyInt w8) l11 0) ∷ ‵ (froom Sync-row′.mir l12 0) ∷ ‵ (froom out-ty l13 0) ∷ ‵ (froom out-ty l14 0) ∷ ‵ (froom (tyInt w8) l15 0) ∷ ‵ (froom Ruling-row′.mir l16 0) ∷ ‵ (froom (tyInt w64) l17 0) ∷ ‵ (froom Row′.mir l18 0) ∷ ‵ (froom out-ty l19 0) ∷ ‵ (froom tyBool l20 0) ∷ ‵ (froom Ruling-row′.mir l21 0) ∷ ‵ (froom (tyInt w64) l22 0) ∷ ‵ (froom Row′.mir l23 0) ∷ ‵ (froom out-ty l24 0) ∷ ‵ (froom Fault-row′.mir l25 0) ∷ ‵ (froom out-ty l26 0) ∷ ‵ (froom out-ty l27 0) ∷ ‵ (froom Answer-row′.mir l28 0) ∷ ‵ (froom T′.mir l29 0) ∷ ‵ (froom (tyRef erased mut rec-ty) l30 0) ∷ ‵ (fat fullShare (tyInt w64) l31 0 y31) ∷ ‵ (fat fullShare tyPtr l32 0 y32) ∷ ‵ (fat fullShare tyPtr l33 0 y33) ∷ ‵ (fat fullShare Row′.mir l34 0 y34) ∷ ‵ (froom (tyRef erased mut rec-ty) l35 0) ∷ ‵ (froom T′.mir l36 0) ∷ ‵ (froom (tyRef erased mut rec-ty) l37 0) ∷ ‵ (froom T′.mir l38 0) ∷ ‵ (froom (tyRef erased mut rec-ty) l39 0) ∷ ‵ (froom T′.mir l40 0) ∷ ‵ (froom (tyInt w64) l41 0) ∷ ‵ (froom tyPtr l42 0) ∷ ‵ (froom tyPtr l43 0) ∷ ‵ (froom Row′.mir l44 0) ∷ ‵ (froom (tyRef erased mut (tyInt w8)) l45 0) ∷ ‵ (froom (sliceTy (tyRef erased mut (tyInt w8))) l46 0) ∷ ‵ (froom (tyRef erased mut rec-ty) l47 0) ∷ ‵ (froom T′.mir l48 0) ∷ ‵ (froom (tyInt w64) l49 0) ∷ ‵ (froom tyPtr l50 0) ∷ ‵ (froom tyPtr l51 0) ∷ ‵ (froom Row′.mir l52 0) ∷ ‵ (froom (tyRef erased mut rec-ty) l53 0) ∷ ‵ (froom T′.mir l54 0) ∷ ‵ (froom (tyRef erased mut rec-ty) l55 0) ∷ ‵ (froom T′.mir l56 0) ∷ ‵ (froom (tyRef erased mut rec-ty) l57 0) ∷ Dies) (runs C Λ En code-making-read (anyQ (Next call)))
         making-read n n-fits d-is s z i p sixteen k-is =
             use0 W (raw ((Reads 𝓤 H A at-mem run) .pre (to-read n (rowAt (h .rows) i)))) (asked-read n (rowAt (h .rows) i) n-fits d-is k-is) $
             calls-at-last ! fm (Reads 𝓤 H A at-mem run) known-reads (to-read n (rowAt (h .rows) i)) (and-then ! (load ! (from ! (stop !)) (look ! 13 refl)) (and-then ! (load ! (from ! (stop !)) (look ! 12 refl)) (and-then ! (load ! (from ! (stop !)) (look ! 15 refl)) (no-more !)))) (λ v.
@@ -558,29 +549,29 @@ module _ {M : Type 1} (𝓤 : URA M) (H : Heap 𝓤) (A : Atoms 𝓤) (W : Given
             split ! $ move ! (1 ∷ []) $ use1 W (some (λ (ws : Lasts reads.ended tt (args-read n (rowAt (h .rows) i))). ‵ (lasts reads.ended tt (args-read n (rowAt (h .rows) i)) ws) ⊛ raw (fact 𝓤 ((c : Controller) → c .control ≡ h .control → length (c .rows) ≡ 16 → rowAt (h .rows) i ≡ rowAt (c .rows) (windowRow (h .control) (registerAt n)) → record { next = c; answer = m } ≡ doneOf (stepOf c (read n)))))) (id⊢ 𝓤 _) $ pick ! (λ ws.
             split ! $ move ! (1 ∷ []) $ heard ! ((c : Controller) → c .control ≡ h .control → length (c .rows) ≡ 16 → rowAt (h .rows) i ≡ rowAt (c .rows) (windowRow (h .control) (registerAt n)) → record { next = c; answer = m } ≡ doneOf (stepOf c (read n))) (λ g. drop ! $ split ! $ drop ! $
             peeks ! Answer-row.the-row (Is Answer-row.the-row) (shows 𝓤 H A Answer-row.the-row) m (v ∷ []) (λ is. drop ! $
-            land-last ! (from ! (stop !)) (init ! 37 refl (EL.lawful Answer-row.the-type Answer-row′.the-laws 𝓤 H A W tt .typed m _ is .0)) $ rewrite ! 37 (λ (u : Val). ‵ (fat fullShare Answer-row′.mir l32 0 u)) (ap only (EL.tells Answer-row.the-type Answer-row′.the-laws m _ is)) refl $
+            land-last ! (from ! (stop !)) (init ! 33 refl (EL.lawful Answer-row.the-type Answer-row′.the-laws 𝓤 H A W tt .typed m _ is .0)) $ rewrite ! 33 (λ (u : Val). ‵ (fat fullShare Answer-row′.mir l28 0 u)) (ap only (EL.tells Answer-row.the-type Answer-row′.the-laws m _ is)) refl $
             use1 W (‵ (fres γ (T.the-row .coded .code h))) (W .names .obs-res γ (T.the-row .coded .code h)) $
-            exec ! C Λ En pieces.t-2 (atRet En (Post call)) $ forget ! 11 refl $ forget ! 12 refl $ forget ! 13 refl $ forget ! 14 refl $ forget ! 40 refl $ forget ! 41 refl $ forget ! 42 refl $ forget ! 43 refl $
-            keep ! (0 ∷ 2 ∷ 3 ∷ 4 ∷ 5 ∷ 6 ∷ 7 ∷ 8 ∷ 9 ∷ 10 ∷ 11 ∷ 12 ∷ 13 ∷ 14 ∷ 15 ∷ 16 ∷ 17 ∷ 18 ∷ 19 ∷ 20 ∷ 21 ∷ 22 ∷ 23 ∷ 24 ∷ 25 ∷ 26 ∷ 27 ∷ 28 ∷ 29 ∷ 30 ∷ 31 ∷ 32 ∷ 33 ∷ 34 ∷ 35 ∷ 36 ∷ 37 ∷ 38 ∷ 39 ∷ 40 ∷ 41 ∷ 42 ∷ 43 ∷ 44 ∷ 45 ∷ 46 ∷ 47 ∷ 48 ∷ 49 ∷ 50 ∷ 51 ∷ 52 ∷ 53 ∷ 54 ∷ 55 ∷ 56 ∷ 57 ∷ 58 ∷ 59 ∷ 60 ∷ 61 ∷ 62 ∷ 63 ∷ 64 ∷ 65 ∷ 66 ∷ 67 ∷ 68 ∷ 69 ∷ 70 ∷ 71 ∷ 72 ∷ 73 ∷ 74 ∷ 75 ∷ 76 ∷ 77 ∷ 78 ∷ 79 ∷ 80 ∷ 81 ∷ 82 ∷ 83 ∷ 84 ∷ 85 ∷ 86 ∷ 87 ∷ 88 ∷ 89 ∷ 90 ∷ 91 ∷ 92 ∷ 93 ∷ 94 ∷ 95 ∷ 96 ∷ 97 ∷ 98 ∷ 99 ∷ 100 ∷ 101 ∷ 102 ∷ 103 ∷ 104 ∷ 105 ∷ 106 ∷ 107 ∷ 108 ∷ 109 ∷ 110 ∷ 111 ∷ 112 ∷ 113 ∷ 114 ∷ 115 ∷ 116 ∷ 117 ∷ 118 ∷ 119 ∷ 120 ∷ 121 ∷ 122 ∷ 123 ∷ 124 ∷ 125 ∷ 126 ∷ 127 ∷ 128 ∷ 129 ∷ 130 ∷ 131 ∷ 132 ∷ 133 ∷ 134 ∷ 135 ∷ 136 ∷ []) $ answered h m room (ap (λ (u : Done). u .next) (g h refl sixteen (ap (rowAt (h .rows)) p)) ∙ ap next s, ap (λ (u : Done). u .answer) (g h refl sixteen (ap (rowAt (h .rows)) p)) ∙ ap answer s, z) (answer-is m _ is) refl)))))
+            exec ! C Λ En pieces.t-2 (atRet En (Post call)) $ forget ! 11 refl $ forget ! 12 refl $ forget ! 13 refl $ forget ! 14 refl $ forget ! 36 refl $ forget ! 37 refl $ forget ! 38 refl $ forget ! 39 refl $
+            keep ! (0 ∷ 2 ∷ 3 ∷ 4 ∷ 5 ∷ 6 ∷ 7 ∷ 8 ∷ 9 ∷ 10 ∷ 11 ∷ 12 ∷ 13 ∷ 14 ∷ 15 ∷ 16 ∷ 17 ∷ 18 ∷ 19 ∷ 20 ∷ 21 ∷ 22 ∷ 23 ∷ 24 ∷ 25 ∷ 26 ∷ 27 ∷ 28 ∷ 29 ∷ 30 ∷ 31 ∷ 32 ∷ 33 ∷ 34 ∷ 35 ∷ 36 ∷ 37 ∷ 38 ∷ 39 ∷ 40 ∷ 41 ∷ 42 ∷ 43 ∷ 44 ∷ 45 ∷ 46 ∷ 47 ∷ 48 ∷ 49 ∷ 50 ∷ 51 ∷ 52 ∷ 53 ∷ 54 ∷ 55 ∷ 56 ∷ 57 ∷ 58 ∷ 59 ∷ 60 ∷ 61 ∷ 62 ∷ 63 ∷ 64 ∷ 65 ∷ 66 ∷ 67 ∷ 68 ∷ 69 ∷ 70 ∷ 71 ∷ 72 ∷ 73 ∷ 74 ∷ 75 ∷ 76 ∷ 77 ∷ 78 ∷ 79 ∷ 80 ∷ 81 ∷ 82 ∷ 83 ∷ 84 ∷ 85 ∷ 86 ∷ 87 ∷ 88 ∷ 89 ∷ 90 ∷ 91 ∷ 92 ∷ 93 ∷ 94 ∷ 95 ∷ 96 ∷ 97 ∷ 98 ∷ 99 ∷ 100 ∷ 101 ∷ 102 ∷ 103 ∷ 104 ∷ 105 ∷ 106 ∷ 107 ∷ 108 ∷ 109 ∷ 110 ∷ 111 ∷ 112 ∷ 113 ∷ 114 ∷ 115 ∷ 116 ∷ 117 ∷ 118 ∷ 119 ∷ 120 ∷ []) $ answered h m room (ap (λ (u : Done). u .next) (g h refl sixteen (ap (rowAt (h .rows)) p)) ∙ ap next s, ap (λ (u : Done). u .answer) (g h refl sixteen (ap (rowAt (h .rows)) p)) ∙ ap answer s, z) (answer-is m _ is) refl)))))
 
         -- the row is read
-        reading-read : {y2 : Val} (n : ℕ) → n < 2 ^ 8 → Is Control-row.the-row (h .control) (LL.val Control-row.the-type Control-row′.the-laws (h .control) ∷ []) → read n ≡ stepFor call (bytesIn f) room → room ≡ roomFor h call room → (i : ℕ) → i ≡ windowRow (h .control) (registerAt n) → Sq W (‵ (fobs γ (T.the-row .coded .code h)) ∷ ‵ (fbor κ (Body (mem T.the-row) b o γ)) ∷ ‵ (flft κ q) ∷ ‵ (flft κ-room q-room) ∷ ‵ (finally u8 γ-room room) ∷ ‵ (froom Answer-row′.mir l0 0) ∷ ‵ (fat fullShare (tyRef (named 0) mut rec-ty) l1 0 (vptr b o)) ∷ ‵ (fat fullShare Call-row′.mir l2 0 y2) ∷ ‵ (fat fullShare Frame-row′.mir l3 0 (LL.val Frame-row.the-type Frame-row′.the-laws f)) ∷ ‵ (fat fullShare (sliceTy (tyRef (named 1) mut (tyInt w8))) l4 0 s-room) ∷ ‵ (froom out-ty l5 0) ∷ ‵ (fat fullShare (tyInt w8) l6 0 (vint w8 n)) ∷ ‵ (fat fullShare Control-row′.mir l7 0 (LL.val Control-row.the-type Control-row′.the-laws (h .control))) ∷ ‵ (fat fullShare (tyInt w64) l8 0 (vint w64 i)) ∷ ‵ (froom Row′.mir l9 0) ∷ ‵ (froom (tyInt w8) l10 0) ∷ ‵ (froom (tyInt w8) l11 0) ∷ ‵ (froom Control-row′.mir l12 0) ∷ ‵ (froom (tyInt w64) l13 0) ∷ ‵ (froom Row′.mir l14 0) ∷ ‵ (froom out-ty l15 0) ∷ ‵ (froom Sync-row′.mir l16 0) ∷ ‵ (froom out-ty l17 0) ∷ ‵ (froom out-ty l18 0) ∷ ‵ (froom (tyInt w8) l19 0) ∷ ‵ (froom Ruling-row′.mir l20 0) ∷ ‵ (froom (tyInt w64) l21 0) ∷ ‵ (froom Row′.mir l22 0) ∷ ‵ (froom out-ty l23 0) ∷ ‵ (froom tyBool l24 0) ∷ ‵ (froom Ruling-row′.mir l25 0) ∷ ‵ (froom (tyInt w64) l26 0) ∷ ‵ (froom Row′.mir l27 0) ∷ ‵ (froom out-ty l28 0) ∷ ‵ (froom Fault-row′.mir l29 0) ∷ ‵ (froom out-ty l30 0) ∷ ‵ (froom out-ty l31 0) ∷ ‵ (froom Answer-row′.mir l32 0) ∷ ‵ (froom T′.mir l33 0) ∷ ‵ (froom (tyRef erased mut rec-ty) l34 0) ∷ ‵ (froom (tyInt w64) l35 0) ∷ ‵ (froom tyPtr l36 0) ∷ ‵ (froom tyPtr l37 0) ∷ ‵ (froom Row′.mir l38 0) ∷ ‵ (froom (tyInt w64) l39 0) ∷ ‵ (froom tyPtr l40 0) ∷ ‵ (froom tyPtr l41 0) ∷ ‵ (froom Row′.mir l42 0) ∷ ‵ (froom (tyRef erased mut rec-ty) l43 0) ∷ ‵ (froom T′.mir l44 0) ∷ ‵ (froom (tyRef erased mut rec-ty) l45 0) ∷ ‵ (froom T′.mir l46 0) ∷ ‵ (froom (tyRef erased mut rec-ty) l47 0) ∷ ‵ (froom T′.mir l48 0) ∷ ‵ (froom (tyInt w64) l49 0) ∷ ‵ (froom tyPtr l50 0) ∷ ‵ (froom tyPtr l51 0) ∷ ‵ (froom Row′.mir l52 0) ∷ ‵ (froom (tyRef erased mut (tyInt w8)) l53 0) ∷ ‵ (froom (sliceTy (tyRef erased mut (tyInt w8))) l54 0) ∷ ‵ (froom (tyRef erased mut rec-ty) l55 0) ∷ ‵ (froom T′.mir l56 0) ∷ ‵ (froom (tyInt w64) l57 0) ∷ ‵ (froom tyPtr l58 0) ∷ ‵ (froom tyPtr l59 0) ∷ ‵ (froom Row′.mir l60 0) ∷ ‵ (froom (tyRef erased mut rec-ty) l61 0) ∷ ‵ (froom T′.mir l62 0) ∷ ‵ (froom (tyRef erased mut rec-ty) l63 0) ∷ ‵ (froom T′.mir l64 0) ∷ ‵ (froom (tyRef erased mut rec-ty) l65 0) ∷ Dies) (runs C Λ En code-reading-read (anyQ (Next call)))
+        reading-read : {y2 : Val} (n : ℕ) → n < 2 ^ 8 → Is Control-row.the-row (h .control) (LL.val Control-row.the-type Control-row′.the-laws (h .control) ∷ []) → read n ≡ stepFor call (bytesIn f) room → room ≡ roomFor h call room → (i : ℕ) → i ≡ windowRow (h .control) (registerAt n) → Sq W (‵ (fobs γ (T.the-row .coded .code h)) ∷ ‵ (fbor κ (Body (mem T.the-row) b o γ)) ∷ ‵ (flft κ q) ∷ ‵ (flft κ-room q-room) ∷ ‵ (finally u8 γ-room room) ∷ ‵ (froom Answer-row′.mir l0 0) ∷ ‵ (fat fullShare (tyRef (named 0) mut rec-ty) l1 0 (vptr b o)) ∷ ‵ (fat fullShare Call-row′.mir l2 0 y2) ∷ ‵ (fat fullShare Frame-row′.mir l3 0 (LL.val Frame-row.the-type Frame-row′.the-laws f)) ∷ ‵ (fat fullShare (sliceTy (tyRef (named 1) mut (tyInt w8))) l4 0 s-room) ∷ ‵ (froom out-ty l5 0) ∷ ‵ (fat fullShare (tyInt w8) l6 0 (vint w8 n)) ∷ ‵ (fat fullShare Control-row′.mir l7 0 (LL.val Control-row.the-type Control-row′.the-laws (h .control))) ∷ ‵ (fat fullShare (tyInt w64) l8 0 (vint w64 i)) ∷ ‵ (froom Row′.mir l9 0) ∷ ‵ (froom (tyInt w8) l10 0) ∷ ‵ (froom (tyInt w8) l11 0) ∷ ‵ (froom Sync-row′.mir l12 0) ∷ ‵ (froom out-ty l13 0) ∷ ‵ (froom out-ty l14 0) ∷ ‵ (froom (tyInt w8) l15 0) ∷ ‵ (froom Ruling-row′.mir l16 0) ∷ ‵ (froom (tyInt w64) l17 0) ∷ ‵ (froom Row′.mir l18 0) ∷ ‵ (froom out-ty l19 0) ∷ ‵ (froom tyBool l20 0) ∷ ‵ (froom Ruling-row′.mir l21 0) ∷ ‵ (froom (tyInt w64) l22 0) ∷ ‵ (froom Row′.mir l23 0) ∷ ‵ (froom out-ty l24 0) ∷ ‵ (froom Fault-row′.mir l25 0) ∷ ‵ (froom out-ty l26 0) ∷ ‵ (froom out-ty l27 0) ∷ ‵ (froom Answer-row′.mir l28 0) ∷ ‵ (froom T′.mir l29 0) ∷ ‵ (froom (tyRef erased mut rec-ty) l30 0) ∷ ‵ (froom (tyInt w64) l31 0) ∷ ‵ (froom tyPtr l32 0) ∷ ‵ (froom tyPtr l33 0) ∷ ‵ (froom Row′.mir l34 0) ∷ ‵ (froom (tyRef erased mut rec-ty) l35 0) ∷ ‵ (froom T′.mir l36 0) ∷ ‵ (froom (tyRef erased mut rec-ty) l37 0) ∷ ‵ (froom T′.mir l38 0) ∷ ‵ (froom (tyRef erased mut rec-ty) l39 0) ∷ ‵ (froom T′.mir l40 0) ∷ ‵ (froom (tyInt w64) l41 0) ∷ ‵ (froom tyPtr l42 0) ∷ ‵ (froom tyPtr l43 0) ∷ ‵ (froom Row′.mir l44 0) ∷ ‵ (froom (tyRef erased mut (tyInt w8)) l45 0) ∷ ‵ (froom (sliceTy (tyRef erased mut (tyInt w8))) l46 0) ∷ ‵ (froom (tyRef erased mut rec-ty) l47 0) ∷ ‵ (froom T′.mir l48 0) ∷ ‵ (froom (tyInt w64) l49 0) ∷ ‵ (froom tyPtr l50 0) ∷ ‵ (froom tyPtr l51 0) ∷ ‵ (froom Row′.mir l52 0) ∷ ‵ (froom (tyRef erased mut rec-ty) l53 0) ∷ ‵ (froom T′.mir l54 0) ∷ ‵ (froom (tyRef erased mut rec-ty) l55 0) ∷ ‵ (froom T′.mir l56 0) ∷ ‵ (froom (tyRef erased mut rec-ty) l57 0) ∷ Dies) (runs C Λ En code-reading-read (anyQ (Next call)))
         reading-read n n-fits d-is s z i p =
             opens ! tt T.the-row {h = h} b o (λ vs. spelt ! T.the-row (Is T.the-row) (shows 𝓤 H A T.the-row) (LL.vals T.the-type T′.the-laws) (LL.tells T.the-type T′.the-laws) fullShare h vs b o $
             move ! (1 ∷ []) $ peeks ! T.the-row (Is T.the-row) (shows 𝓤 H A T.the-row) h (mach h ∷ []) (λ was.
-            assigns ! (bin ! (load ! (from ! (stop !)) (look ! 15 refl)) (lit ! tt) (record { fits = byte-fits i (window-below (h .control) (registerAt n) i p) })) (from ! (stop !)) (init ! 42 refl (tt, record { fits = byte-fits i (window-below (h .control) (registerAt n) i p) })) $
-            assigns ! (addr ! (from ! (hop ! (look ! 8 refl) (fld ! refl (stop !))))) (from ! (stop !)) (init ! 43 refl (tt, tt)) $
-            assigns ! (bin ! (load ! (from ! (stop !)) (look ! 43 refl)) (load ! (from ! (stop !)) (look ! 42 refl)) tt) (from ! (stop !)) (init ! 44 refl (tt, tt)) $
-            rewrite ! 44 (λ (m : ℕ). ‵ (fat fullShare tyPtr l37 0 (vptr b m))) (sym (place-is 14 (o + at-rows) i)) refl $
+            assigns ! (bin ! (load ! (from ! (stop !)) (look ! 15 refl)) (lit ! tt) (record { fits = byte-fits i (window-below (h .control) (registerAt n) i p) })) (from ! (stop !)) (init ! 38 refl (tt, record { fits = byte-fits i (window-below (h .control) (registerAt n) i p) })) $
+            assigns ! (addr ! (from ! (hop ! (look ! 8 refl) (fld ! refl (stop !))))) (from ! (stop !)) (init ! 39 refl (tt, tt)) $
+            assigns ! (bin ! (load ! (from ! (stop !)) (look ! 39 refl)) (load ! (from ! (stop !)) (look ! 38 refl)) tt) (from ! (stop !)) (init ! 40 refl (tt, tt)) $
+            rewrite ! 40 (λ (m : ℕ). ‵ (fat fullShare tyPtr l33 0 (vptr b m))) (sym (place-is 14 (o + at-rows) i)) refl $
             move ! (1 ∷ []) $ use1 W (‵ (fat fullShare T′.mir b o (mach h))) (W .laws .raw-at fullShare T′.mir b o (mach h)) $
-            assigns ! (of-opd ! (load ! (from ! (hop ! (look ! 44 refl) (stop !))) (look-in ! 0 (elem-at ! (values (h .rows)) i (LL.val Row.the-type Row′.the-laws noContents) (LL.val Row.the-type Row′.the-laws (rowAt (h .rows) i)) (value-at (h .rows) i) (in-rows h was i (window-below (h .control) (registerAt n) i p)) (sixteen-values h was) (sub ! 1 refl (whole !)))))) (from ! (stop !)) (init ! 45 refl (LL.lawful Row.the-type Row′.the-laws 𝓤 H A W .typed (rowAt (h .rows) i) _ (row-is h was i (window-below (h .control) (registerAt n) i p)) .0)) $
+            assigns ! (of-opd ! (load ! (from ! (hop ! (look ! 40 refl) (stop !))) (look-in ! 0 (elem-at ! (values (h .rows)) i (LL.val Row.the-type Row′.the-laws noContents) (LL.val Row.the-type Row′.the-laws (rowAt (h .rows) i)) (value-at (h .rows) i) (in-rows h was i (window-below (h .control) (registerAt n) i p)) (sixteen-values h was) (sub ! 1 refl (whole !)))))) (from ! (stop !)) (init ! 41 refl (LL.lawful Row.the-type Row′.the-laws 𝓤 H A W .typed (rowAt (h .rows) i) _ (row-is h was i (window-below (h .control) (registerAt n) i p)) .0)) $
             use1 W (‵ (cellAt fullShare (T.the-row .mir) (mach h ∷ []) b o)) (W .laws .at-raw fullShare T′.mir b o (mach h)) $
             closes ! tt T.the-row h (mach h ∷ []) b o $
-            assigns ! (of-opd ! (load ! (from ! (stop !)) (look ! 43 refl))) (from ! (stop !)) (init ! 14 refl (LL.lawful Row.the-type Row′.the-laws 𝓤 H A W .typed (rowAt (h .rows) i) _ (row-is h was i (window-below (h .control) (registerAt n) i p)) .0)) $
+            assigns ! (of-opd ! (load ! (from ! (stop !)) (look ! 39 refl))) (from ! (stop !)) (init ! 14 refl (LL.lawful Row.the-type Row′.the-laws 𝓤 H A W .typed (rowAt (h .rows) i) _ (row-is h was i (window-below (h .control) (registerAt n) i p)) .0)) $
             making-read n n-fits d-is s z i p (sixteen-rows h was) (row-is h was i (window-below (h .control) (registerAt n) i p))))
 
         -- the row to look at
-        finding-read : {y2 : Val} (n : ℕ) → n < 2 ^ 8 → Is Control-row.the-row (h .control) (LL.val Control-row.the-type Control-row′.the-laws (h .control) ∷ []) → read n ≡ stepFor call (bytesIn f) room → room ≡ roomFor h call room → Sq W (‵ (fobs γ (T.the-row .coded .code h)) ∷ ‵ (fbor κ (Body (mem T.the-row) b o γ)) ∷ ‵ (flft κ q) ∷ ‵ (flft κ-room q-room) ∷ ‵ (finally u8 γ-room room) ∷ ‵ (froom Answer-row′.mir l0 0) ∷ ‵ (fat fullShare (tyRef (named 0) mut rec-ty) l1 0 (vptr b o)) ∷ ‵ (fat fullShare Call-row′.mir l2 0 y2) ∷ ‵ (fat fullShare Frame-row′.mir l3 0 (LL.val Frame-row.the-type Frame-row′.the-laws f)) ∷ ‵ (fat fullShare (sliceTy (tyRef (named 1) mut (tyInt w8))) l4 0 s-room) ∷ ‵ (froom out-ty l5 0) ∷ ‵ (fat fullShare (tyInt w8) l6 0 (vint w8 n)) ∷ ‵ (fat fullShare Control-row′.mir l7 0 (LL.val Control-row.the-type Control-row′.the-laws (h .control))) ∷ ‵ (froom (tyInt w64) l8 0) ∷ ‵ (froom Row′.mir l9 0) ∷ ‵ (froom (tyInt w8) l10 0) ∷ ‵ (froom (tyInt w8) l11 0) ∷ ‵ (froom Control-row′.mir l12 0) ∷ ‵ (froom (tyInt w64) l13 0) ∷ ‵ (froom Row′.mir l14 0) ∷ ‵ (froom out-ty l15 0) ∷ ‵ (froom Sync-row′.mir l16 0) ∷ ‵ (froom out-ty l17 0) ∷ ‵ (froom out-ty l18 0) ∷ ‵ (froom (tyInt w8) l19 0) ∷ ‵ (froom Ruling-row′.mir l20 0) ∷ ‵ (froom (tyInt w64) l21 0) ∷ ‵ (froom Row′.mir l22 0) ∷ ‵ (froom out-ty l23 0) ∷ ‵ (froom tyBool l24 0) ∷ ‵ (froom Ruling-row′.mir l25 0) ∷ ‵ (froom (tyInt w64) l26 0) ∷ ‵ (froom Row′.mir l27 0) ∷ ‵ (froom out-ty l28 0) ∷ ‵ (froom Fault-row′.mir l29 0) ∷ ‵ (froom out-ty l30 0) ∷ ‵ (froom out-ty l31 0) ∷ ‵ (froom Answer-row′.mir l32 0) ∷ ‵ (froom T′.mir l33 0) ∷ ‵ (froom (tyRef erased mut rec-ty) l34 0) ∷ ‵ (froom (tyInt w64) l35 0) ∷ ‵ (froom tyPtr l36 0) ∷ ‵ (froom tyPtr l37 0) ∷ ‵ (froom Row′.mir l38 0) ∷ ‵ (froom (tyInt w64) l39 0) ∷ ‵ (froom tyPtr l40 0) ∷ ‵ (froom tyPtr l41 0) ∷ ‵ (froom Row′.mir l42 0) ∷ ‵ (froom (tyRef erased mut rec-ty) l43 0) ∷ ‵ (froom T′.mir l44 0) ∷ ‵ (froom (tyRef erased mut rec-ty) l45 0) ∷ ‵ (froom T′.mir l46 0) ∷ ‵ (froom (tyRef erased mut rec-ty) l47 0) ∷ ‵ (froom T′.mir l48 0) ∷ ‵ (froom (tyInt w64) l49 0) ∷ ‵ (froom tyPtr l50 0) ∷ ‵ (froom tyPtr l51 0) ∷ ‵ (froom Row′.mir l52 0) ∷ ‵ (froom (tyRef erased mut (tyInt w8)) l53 0) ∷ ‵ (froom (sliceTy (tyRef erased mut (tyInt w8))) l54 0) ∷ ‵ (froom (tyRef erased mut rec-ty) l55 0) ∷ ‵ (froom T′.mir l56 0) ∷ ‵ (froom (tyInt w64) l57 0) ∷ ‵ (froom tyPtr l58 0) ∷ ‵ (froom tyPtr l59 0) ∷ ‵ (froom Row′.mir l60 0) ∷ ‵ (froom (tyRef erased mut rec-ty) l61 0) ∷ ‵ (froom T′.mir l62 0) ∷ ‵ (froom (tyRef erased mut rec-ty) l63 0) ∷ ‵ (froom T′.mir l64 0) ∷ ‵ (froom (tyRef erased mut rec-ty) l65 0) ∷ Dies) (runs C Λ En code-finding-read (anyQ (Next call)))
+        finding-read : {y2 : Val} (n : ℕ) → n < 2 ^ 8 → Is Control-row.the-row (h .control) (LL.val Control-row.the-type Control-row′.the-laws (h .control) ∷ []) → read n ≡ stepFor call (bytesIn f) room → room ≡ roomFor h call room → Sq W (‵ (fobs γ (T.the-row .coded .code h)) ∷ ‵ (fbor κ (Body (mem T.the-row) b o γ)) ∷ ‵ (flft κ q) ∷ ‵ (flft κ-room q-room) ∷ ‵ (finally u8 γ-room room) ∷ ‵ (froom Answer-row′.mir l0 0) ∷ ‵ (fat fullShare (tyRef (named 0) mut rec-ty) l1 0 (vptr b o)) ∷ ‵ (fat fullShare Call-row′.mir l2 0 y2) ∷ ‵ (fat fullShare Frame-row′.mir l3 0 (LL.val Frame-row.the-type Frame-row′.the-laws f)) ∷ ‵ (fat fullShare (sliceTy (tyRef (named 1) mut (tyInt w8))) l4 0 s-room) ∷ ‵ (froom out-ty l5 0) ∷ ‵ (fat fullShare (tyInt w8) l6 0 (vint w8 n)) ∷ ‵ (fat fullShare Control-row′.mir l7 0 (LL.val Control-row.the-type Control-row′.the-laws (h .control))) ∷ ‵ (froom (tyInt w64) l8 0) ∷ ‵ (froom Row′.mir l9 0) ∷ ‵ (froom (tyInt w8) l10 0) ∷ ‵ (froom (tyInt w8) l11 0) ∷ ‵ (froom Sync-row′.mir l12 0) ∷ ‵ (froom out-ty l13 0) ∷ ‵ (froom out-ty l14 0) ∷ ‵ (froom (tyInt w8) l15 0) ∷ ‵ (froom Ruling-row′.mir l16 0) ∷ ‵ (froom (tyInt w64) l17 0) ∷ ‵ (froom Row′.mir l18 0) ∷ ‵ (froom out-ty l19 0) ∷ ‵ (froom tyBool l20 0) ∷ ‵ (froom Ruling-row′.mir l21 0) ∷ ‵ (froom (tyInt w64) l22 0) ∷ ‵ (froom Row′.mir l23 0) ∷ ‵ (froom out-ty l24 0) ∷ ‵ (froom Fault-row′.mir l25 0) ∷ ‵ (froom out-ty l26 0) ∷ ‵ (froom out-ty l27 0) ∷ ‵ (froom Answer-row′.mir l28 0) ∷ ‵ (froom T′.mir l29 0) ∷ ‵ (froom (tyRef erased mut rec-ty) l30 0) ∷ ‵ (froom (tyInt w64) l31 0) ∷ ‵ (froom tyPtr l32 0) ∷ ‵ (froom tyPtr l33 0) ∷ ‵ (froom Row′.mir l34 0) ∷ ‵ (froom (tyRef erased mut rec-ty) l35 0) ∷ ‵ (froom T′.mir l36 0) ∷ ‵ (froom (tyRef erased mut rec-ty) l37 0) ∷ ‵ (froom T′.mir l38 0) ∷ ‵ (froom (tyRef erased mut rec-ty) l39 0) ∷ ‵ (froom T′.mir l40 0) ∷ ‵ (froom (tyInt w64) l41 0) ∷ ‵ (froom tyPtr l42 0) ∷ ‵ (froom tyPtr l43 0) ∷ ‵ (froom Row′.mir l44 0) ∷ ‵ (froom (tyRef erased mut (tyInt w8)) l45 0) ∷ ‵ (froom (sliceTy (tyRef erased mut (tyInt w8))) l46 0) ∷ ‵ (froom (tyRef erased mut rec-ty) l47 0) ∷ ‵ (froom T′.mir l48 0) ∷ ‵ (froom (tyInt w64) l49 0) ∷ ‵ (froom tyPtr l50 0) ∷ ‵ (froom tyPtr l51 0) ∷ ‵ (froom Row′.mir l52 0) ∷ ‵ (froom (tyRef erased mut rec-ty) l53 0) ∷ ‵ (froom T′.mir l54 0) ∷ ‵ (froom (tyRef erased mut rec-ty) l55 0) ∷ ‵ (froom T′.mir l56 0) ∷ ‵ (froom (tyRef erased mut rec-ty) l57 0) ∷ Dies) (runs C Λ En code-finding-read (anyQ (Next call)))
         finding-read n n-fits d-is s z =
             use0 W (raw ((Windows 𝓤 H A at-mem run) .pre (to-windows n))) (asked-windows n n-fits d-is) $
             calls-at ! fm (Windows 𝓤 H A at-mem run) known-windows (to-windows n) (and-then ! (load ! (from ! (stop !)) (look ! 13 refl)) (and-then ! (load ! (from ! (stop !)) (look ! 12 refl)) (no-more !))) (λ v.
@@ -592,7 +583,7 @@ module _ {M : Type 1} (𝓤 : URA M) (H : Heap 𝓤) (A : Atoms 𝓤) (W : Given
             reading-read n n-fits d-is s z i p)))))
 
         -- Read
-        on-read : {y2 : Val} (n : ℕ) → n < 2 ^ 8 → read n ≡ stepFor call (bytesIn f) room → room ≡ roomFor h call room → Sq W (‵ Rec ∷ ‵ (flft κ q) ∷ ‵ Room′ ∷ ‵ (flft κ-room q-room) ∷ ‵ (froom Answer-row′.mir l0 0) ∷ ‵ (fat fullShare (tyRef (named 0) mut rec-ty) l1 0 (vptr b o)) ∷ ‵ (fat fullShare Call-row′.mir l2 0 y2) ∷ ‵ (fat fullShare Frame-row′.mir l3 0 (LL.val Frame-row.the-type Frame-row′.the-laws f)) ∷ ‵ (fat fullShare (sliceTy (tyRef (named 1) mut (tyInt w8))) l4 0 s-room) ∷ ‵ (froom out-ty l5 0) ∷ ‵ (fat fullShare (tyInt w8) l6 0 (vint w8 n)) ∷ ‵ (froom Control-row′.mir l7 0) ∷ ‵ (froom (tyInt w64) l8 0) ∷ ‵ (froom Row′.mir l9 0) ∷ ‵ (froom (tyInt w8) l10 0) ∷ ‵ (froom (tyInt w8) l11 0) ∷ ‵ (froom Control-row′.mir l12 0) ∷ ‵ (froom (tyInt w64) l13 0) ∷ ‵ (froom Row′.mir l14 0) ∷ ‵ (froom out-ty l15 0) ∷ ‵ (froom Sync-row′.mir l16 0) ∷ ‵ (froom out-ty l17 0) ∷ ‵ (froom out-ty l18 0) ∷ ‵ (froom (tyInt w8) l19 0) ∷ ‵ (froom Ruling-row′.mir l20 0) ∷ ‵ (froom (tyInt w64) l21 0) ∷ ‵ (froom Row′.mir l22 0) ∷ ‵ (froom out-ty l23 0) ∷ ‵ (froom tyBool l24 0) ∷ ‵ (froom Ruling-row′.mir l25 0) ∷ ‵ (froom (tyInt w64) l26 0) ∷ ‵ (froom Row′.mir l27 0) ∷ ‵ (froom out-ty l28 0) ∷ ‵ (froom Fault-row′.mir l29 0) ∷ ‵ (froom out-ty l30 0) ∷ ‵ (froom out-ty l31 0) ∷ ‵ (froom Answer-row′.mir l32 0) ∷ ‵ (froom T′.mir l33 0) ∷ ‵ (froom (tyRef erased mut rec-ty) l34 0) ∷ ‵ (froom (tyInt w64) l35 0) ∷ ‵ (froom tyPtr l36 0) ∷ ‵ (froom tyPtr l37 0) ∷ ‵ (froom Row′.mir l38 0) ∷ ‵ (froom (tyInt w64) l39 0) ∷ ‵ (froom tyPtr l40 0) ∷ ‵ (froom tyPtr l41 0) ∷ ‵ (froom Row′.mir l42 0) ∷ ‵ (froom (tyRef erased mut rec-ty) l43 0) ∷ ‵ (froom T′.mir l44 0) ∷ ‵ (froom (tyRef erased mut rec-ty) l45 0) ∷ ‵ (froom T′.mir l46 0) ∷ ‵ (froom (tyRef erased mut rec-ty) l47 0) ∷ ‵ (froom T′.mir l48 0) ∷ ‵ (froom (tyInt w64) l49 0) ∷ ‵ (froom tyPtr l50 0) ∷ ‵ (froom tyPtr l51 0) ∷ ‵ (froom Row′.mir l52 0) ∷ ‵ (froom (tyRef erased mut (tyInt w8)) l53 0) ∷ ‵ (froom (sliceTy (tyRef erased mut (tyInt w8))) l54 0) ∷ ‵ (froom (tyRef erased mut rec-ty) l55 0) ∷ ‵ (froom T′.mir l56 0) ∷ ‵ (froom (tyInt w64) l57 0) ∷ ‵ (froom tyPtr l58 0) ∷ ‵ (froom tyPtr l59 0) ∷ ‵ (froom Row′.mir l60 0) ∷ ‵ (froom (tyRef erased mut rec-ty) l61 0) ∷ ‵ (froom T′.mir l62 0) ∷ ‵ (froom (tyRef erased mut rec-ty) l63 0) ∷ ‵ (froom T′.mir l64 0) ∷ ‵ (froom (tyRef erased mut rec-ty) l65 0) ∷ Dies) (runs C Λ En code-read (anyQ (Next call)))
+        on-read : {y2 : Val} (n : ℕ) → n < 2 ^ 8 → read n ≡ stepFor call (bytesIn f) room → room ≡ roomFor h call room → Sq W (‵ Rec ∷ ‵ (flft κ q) ∷ ‵ Room′ ∷ ‵ (flft κ-room q-room) ∷ ‵ (froom Answer-row′.mir l0 0) ∷ ‵ (fat fullShare (tyRef (named 0) mut rec-ty) l1 0 (vptr b o)) ∷ ‵ (fat fullShare Call-row′.mir l2 0 y2) ∷ ‵ (fat fullShare Frame-row′.mir l3 0 (LL.val Frame-row.the-type Frame-row′.the-laws f)) ∷ ‵ (fat fullShare (sliceTy (tyRef (named 1) mut (tyInt w8))) l4 0 s-room) ∷ ‵ (froom out-ty l5 0) ∷ ‵ (fat fullShare (tyInt w8) l6 0 (vint w8 n)) ∷ ‵ (froom Control-row′.mir l7 0) ∷ ‵ (froom (tyInt w64) l8 0) ∷ ‵ (froom Row′.mir l9 0) ∷ ‵ (froom (tyInt w8) l10 0) ∷ ‵ (froom (tyInt w8) l11 0) ∷ ‵ (froom Sync-row′.mir l12 0) ∷ ‵ (froom out-ty l13 0) ∷ ‵ (froom out-ty l14 0) ∷ ‵ (froom (tyInt w8) l15 0) ∷ ‵ (froom Ruling-row′.mir l16 0) ∷ ‵ (froom (tyInt w64) l17 0) ∷ ‵ (froom Row′.mir l18 0) ∷ ‵ (froom out-ty l19 0) ∷ ‵ (froom tyBool l20 0) ∷ ‵ (froom Ruling-row′.mir l21 0) ∷ ‵ (froom (tyInt w64) l22 0) ∷ ‵ (froom Row′.mir l23 0) ∷ ‵ (froom out-ty l24 0) ∷ ‵ (froom Fault-row′.mir l25 0) ∷ ‵ (froom out-ty l26 0) ∷ ‵ (froom out-ty l27 0) ∷ ‵ (froom Answer-row′.mir l28 0) ∷ ‵ (froom T′.mir l29 0) ∷ ‵ (froom (tyRef erased mut rec-ty) l30 0) ∷ ‵ (froom (tyInt w64) l31 0) ∷ ‵ (froom tyPtr l32 0) ∷ ‵ (froom tyPtr l33 0) ∷ ‵ (froom Row′.mir l34 0) ∷ ‵ (froom (tyRef erased mut rec-ty) l35 0) ∷ ‵ (froom T′.mir l36 0) ∷ ‵ (froom (tyRef erased mut rec-ty) l37 0) ∷ ‵ (froom T′.mir l38 0) ∷ ‵ (froom (tyRef erased mut rec-ty) l39 0) ∷ ‵ (froom T′.mir l40 0) ∷ ‵ (froom (tyInt w64) l41 0) ∷ ‵ (froom tyPtr l42 0) ∷ ‵ (froom tyPtr l43 0) ∷ ‵ (froom Row′.mir l44 0) ∷ ‵ (froom (tyRef erased mut (tyInt w8)) l45 0) ∷ ‵ (froom (sliceTy (tyRef erased mut (tyInt w8))) l46 0) ∷ ‵ (froom (tyRef erased mut rec-ty) l47 0) ∷ ‵ (froom T′.mir l48 0) ∷ ‵ (froom (tyInt w64) l49 0) ∷ ‵ (froom tyPtr l50 0) ∷ ‵ (froom tyPtr l51 0) ∷ ‵ (froom Row′.mir l52 0) ∷ ‵ (froom (tyRef erased mut rec-ty) l53 0) ∷ ‵ (froom T′.mir l54 0) ∷ ‵ (froom (tyRef erased mut rec-ty) l55 0) ∷ ‵ (froom T′.mir l56 0) ∷ ‵ (froom (tyRef erased mut rec-ty) l57 0) ∷ Dies) (runs C Λ En code-read (anyQ (Next call)))
         on-read n n-fits s z =
             fsplit3 ! $ drop ! $
             opens ! tt T.the-row {h = h} b o (λ vs. spelt ! T.the-row (Is T.the-row) (shows 𝓤 H A T.the-row) (LL.vals T.the-type T′.the-laws) (LL.tells T.the-type T′.the-laws) fullShare h vs b o $
@@ -603,176 +594,196 @@ module _ {M : Type 1} (𝓤 : URA M) (H : Heap 𝓤) (A : Atoms 𝓤) (W : Given
             closes ! tt T.the-row h (mach h ∷ []) b o $
             move ! (3 ∷ []) $ fsplit ! $ move ! (1 ∷ []) $ fsplit ! $
             use1 W (‵ (fres γ-room (codedHoleys u8 .code (heres u8 room)))) (W .names .obs-res γ-room (codedHoleys u8 .code (heres u8 room))) $ use1 W (‵ (finally u8 γ-room room)) (res-finally 𝓤 H A W (named 1) κ-room u8 γ-room room) $
-            keep ! (3 ∷ 4 ∷ 5 ∷ 6 ∷ 0 ∷ 7 ∷ 8 ∷ 9 ∷ 10 ∷ 11 ∷ 12 ∷ 13 ∷ 14 ∷ 15 ∷ 16 ∷ 17 ∷ 18 ∷ 19 ∷ 20 ∷ 21 ∷ 22 ∷ 23 ∷ 24 ∷ 25 ∷ 26 ∷ 27 ∷ 28 ∷ 29 ∷ 30 ∷ 31 ∷ 32 ∷ 33 ∷ 34 ∷ 35 ∷ 36 ∷ 37 ∷ 38 ∷ 39 ∷ 40 ∷ 41 ∷ 42 ∷ 43 ∷ 44 ∷ 45 ∷ 46 ∷ 47 ∷ 48 ∷ 49 ∷ 50 ∷ 51 ∷ 52 ∷ 53 ∷ 54 ∷ 55 ∷ 56 ∷ 57 ∷ 58 ∷ 59 ∷ 60 ∷ 61 ∷ 62 ∷ 63 ∷ 64 ∷ 65 ∷ 66 ∷ 67 ∷ 68 ∷ 69 ∷ 70 ∷ 71 ∷ 72 ∷ 73 ∷ 74 ∷ 75 ∷ 76 ∷ 77 ∷ 78 ∷ 79 ∷ 80 ∷ 81 ∷ 82 ∷ 83 ∷ 84 ∷ 85 ∷ 86 ∷ 87 ∷ 88 ∷ 89 ∷ 90 ∷ 91 ∷ 92 ∷ 93 ∷ 94 ∷ 95 ∷ 96 ∷ 97 ∷ 98 ∷ 99 ∷ 100 ∷ 101 ∷ 102 ∷ 103 ∷ 104 ∷ 105 ∷ 106 ∷ 107 ∷ 108 ∷ 109 ∷ 110 ∷ 111 ∷ 112 ∷ 113 ∷ 114 ∷ 115 ∷ 116 ∷ 117 ∷ 118 ∷ 119 ∷ 120 ∷ 121 ∷ 122 ∷ 123 ∷ 124 ∷ 125 ∷ 126 ∷ 127 ∷ 128 ∷ 129 ∷ 130 ∷ 131 ∷ 132 ∷ 133 ∷ 134 ∷ 135 ∷ 136 ∷ 137 ∷ 138 ∷ []) $ finding-read n n-fits (control-is h was) s z))
-
-        -- what `Write` changes is carried out
-        carried-write : {y2 y10 y11 y12 y13 y14 y39 y40 y41 y42 : Val} (x : Change) → Is S.the-row x (LL.val S.the-type S′.the-laws x ∷ []) → changed h x ≡ doneOf (stepOf h (stepFor call (bytesIn f) room)) → (zs : List ℕ) → zs ≡ roomFor h call room → length zs ≡ length room → Sq W (‵ (fobs γ (T.the-row .coded .code h)) ∷ ‵ (fbor κ (Body (mem T.the-row) b o γ)) ∷ ‵ (flft κ q) ∷ ‵ (flft κ-room q-room) ∷ ‵ (finally u8 γ-room zs) ∷ ‵ (froom Answer-row′.mir l0 0) ∷ ‵ (fat fullShare (tyRef (named 0) mut rec-ty) l1 0 (vptr b o)) ∷ ‵ (fat fullShare Call-row′.mir l2 0 y2) ∷ ‵ (fat fullShare Frame-row′.mir l3 0 (LL.val Frame-row.the-type Frame-row′.the-laws f)) ∷ ‵ (fat fullShare (sliceTy (tyRef (named 1) mut (tyInt w8))) l4 0 s-room) ∷ ‵ (froom out-ty l5 0) ∷ ‵ (froom (tyInt w8) l6 0) ∷ ‵ (froom Control-row′.mir l7 0) ∷ ‵ (froom (tyInt w64) l8 0) ∷ ‵ (froom Row′.mir l9 0) ∷ ‵ (fat fullShare (tyInt w8) l10 0 y10) ∷ ‵ (fat fullShare (tyInt w8) l11 0 y11) ∷ ‵ (fat fullShare Control-row′.mir l12 0 y12) ∷ ‵ (fat fullShare (tyInt w64) l13 0 y13) ∷ ‵ (fat fullShare Row′.mir l14 0 y14) ∷ ‵ (fat fullShare out-ty l15 0 (LL.val S.the-type S′.the-laws x)) ∷ ‵ (froom Sync-row′.mir l16 0) ∷ ‵ (froom out-ty l17 0) ∷ ‵ (froom out-ty l18 0) ∷ ‵ (froom (tyInt w8) l19 0) ∷ ‵ (froom Ruling-row′.mir l20 0) ∷ ‵ (froom (tyInt w64) l21 0) ∷ ‵ (froom Row′.mir l22 0) ∷ ‵ (froom out-ty l23 0) ∷ ‵ (froom tyBool l24 0) ∷ ‵ (froom Ruling-row′.mir l25 0) ∷ ‵ (froom (tyInt w64) l26 0) ∷ ‵ (froom Row′.mir l27 0) ∷ ‵ (froom out-ty l28 0) ∷ ‵ (froom Fault-row′.mir l29 0) ∷ ‵ (froom out-ty l30 0) ∷ ‵ (froom out-ty l31 0) ∷ ‵ (froom Answer-row′.mir l32 0) ∷ ‵ (froom T′.mir l33 0) ∷ ‵ (froom (tyRef erased mut rec-ty) l34 0) ∷ ‵ (froom (tyInt w64) l35 0) ∷ ‵ (froom tyPtr l36 0) ∷ ‵ (froom tyPtr l37 0) ∷ ‵ (froom Row′.mir l38 0) ∷ ‵ (fat fullShare (tyInt w64) l39 0 y39) ∷ ‵ (fat fullShare tyPtr l40 0 y40) ∷ ‵ (fat fullShare tyPtr l41 0 y41) ∷ ‵ (fat fullShare Row′.mir l42 0 y42) ∷ ‵ (froom (tyRef erased mut rec-ty) l43 0) ∷ ‵ (froom T′.mir l44 0) ∷ ‵ (froom (tyRef erased mut rec-ty) l45 0) ∷ ‵ (froom T′.mir l46 0) ∷ ‵ (froom (tyRef erased mut rec-ty) l47 0) ∷ ‵ (froom T′.mir l48 0) ∷ ‵ (froom (tyInt w64) l49 0) ∷ ‵ (froom tyPtr l50 0) ∷ ‵ (froom tyPtr l51 0) ∷ ‵ (froom Row′.mir l52 0) ∷ ‵ (froom (tyRef erased mut (tyInt w8)) l53 0) ∷ ‵ (froom (sliceTy (tyRef erased mut (tyInt w8))) l54 0) ∷ ‵ (froom (tyRef erased mut rec-ty) l55 0) ∷ ‵ (froom T′.mir l56 0) ∷ ‵ (froom (tyInt w64) l57 0) ∷ ‵ (froom tyPtr l58 0) ∷ ‵ (froom tyPtr l59 0) ∷ ‵ (froom Row′.mir l60 0) ∷ ‵ (froom (tyRef erased mut rec-ty) l61 0) ∷ ‵ (froom T′.mir l62 0) ∷ ‵ (froom (tyRef erased mut rec-ty) l63 0) ∷ ‵ (froom T′.mir l64 0) ∷ ‵ (froom (tyRef erased mut rec-ty) l65 0) ∷ Dies) (runs C Λ En (carrying 43 15) (anyQ (Next call)))
-        carried-write x x-is e zs z l =
-            assigns ! (addr ! (from ! (hop ! (look ! 6 refl) (stop !)))) (from ! (stop !)) (init ! 48 refl (tt, tt)) $
-            group ! 3 $ use1 W (raw ((Carries 𝓤 H A at-mem run) .pre (to-carry x))) (asked-carry x x-is) $
-            calls-at-last ! fm (Carries 𝓤 H A at-mem run) known-carries (to-carry x) (and-then ! (load ! (from ! (stop !)) (look ! 46 refl)) (and-then ! (load ! (from ! (stop !)) (look ! 18 refl)) (no-more !))) (λ v.
-            use1 W (later (some (λ (m : Answer). ((‵ (flft κ q) ⊛ ‵ ftrue) ⊛ ‵ (Answer-row.the-row .own m (v ∷ []))) ⊛ raw (ensured 𝓤 H A carries.ended (carries.clauses 𝓤 H A at-mem run) (κ, tt) (args-carry x) tt m)))) (id⊢ 𝓤 _) $ await ! tt $ pick ! (λ m.
-            split ! $ move ! (1 ∷ []) $ use1 W (some (λ (ws : Lasts carries.ended (κ, tt) (args-carry x)). ‵ (lasts carries.ended (κ, tt) (args-carry x) ws) ⊛ raw (fact 𝓤 ((ws .0 ≡ changed h x .next) × (m ≡ x .answer))))) (id⊢ 𝓤 _) $ pick ! (λ ws.
-            split ! $ move ! (1 ∷ []) $ heard ! ((ws .0 ≡ changed h x .next) × (m ≡ x .answer)) (λ d. fsplit ! $
-            move ! (2 ∷ []) $ split ! $ move ! (1 ∷ []) $ peeks ! Answer-row.the-row (Is Answer-row.the-row) (shows 𝓤 H A Answer-row.the-row) m (v ∷ []) (λ is. drop ! $ split ! $
-            land-last ! (from ! (stop !)) (init ! 38 refl (EL.lawful Answer-row.the-type Answer-row′.the-laws 𝓤 H A W tt .typed m _ is .0)) $ rewrite ! 38 (λ (u : Val). ‵ (fat fullShare Answer-row′.mir l32 0 u)) (ap only (EL.tells Answer-row.the-type Answer-row′.the-laws m _ is)) refl $
-            exec ! C Λ En pieces.t-2 (atRet En (Post call)) $ forget ! 16 refl $ forget ! 17 refl $ forget ! 18 refl $ forget ! 19 refl $ forget ! 20 refl $ forget ! 21 refl $ forget ! 45 refl $ forget ! 46 refl $ forget ! 47 refl $ forget ! 48 refl $ forget ! 49 refl $
-            keep ! (2 ∷ 0 ∷ 4 ∷ 5 ∷ 6 ∷ 7 ∷ 8 ∷ 9 ∷ 10 ∷ 11 ∷ 12 ∷ 13 ∷ 14 ∷ 15 ∷ 16 ∷ 17 ∷ 18 ∷ 19 ∷ 20 ∷ 21 ∷ 22 ∷ 23 ∷ 24 ∷ 25 ∷ 26 ∷ 27 ∷ 28 ∷ 29 ∷ 30 ∷ 31 ∷ 32 ∷ 33 ∷ 34 ∷ 35 ∷ 36 ∷ 37 ∷ 38 ∷ 39 ∷ 40 ∷ 41 ∷ 42 ∷ 43 ∷ 44 ∷ 45 ∷ 46 ∷ 47 ∷ 48 ∷ 49 ∷ 50 ∷ 51 ∷ 52 ∷ 53 ∷ 54 ∷ 55 ∷ 56 ∷ 57 ∷ 58 ∷ 59 ∷ 60 ∷ 61 ∷ 62 ∷ 63 ∷ 64 ∷ 65 ∷ 66 ∷ 67 ∷ 68 ∷ 69 ∷ 70 ∷ 71 ∷ 72 ∷ 73 ∷ 74 ∷ 75 ∷ 76 ∷ 77 ∷ 78 ∷ 79 ∷ 80 ∷ 81 ∷ 82 ∷ 83 ∷ 84 ∷ 85 ∷ 86 ∷ 87 ∷ 88 ∷ 89 ∷ 90 ∷ 91 ∷ 92 ∷ 93 ∷ 94 ∷ 95 ∷ 96 ∷ 97 ∷ 98 ∷ 99 ∷ 100 ∷ 101 ∷ 102 ∷ 103 ∷ 104 ∷ 105 ∷ 106 ∷ 107 ∷ 108 ∷ 109 ∷ 110 ∷ 111 ∷ 112 ∷ 113 ∷ 114 ∷ 115 ∷ 116 ∷ 117 ∷ 118 ∷ 119 ∷ 120 ∷ 121 ∷ 122 ∷ 123 ∷ 124 ∷ 125 ∷ 126 ∷ 127 ∷ 128 ∷ 129 ∷ 130 ∷ 131 ∷ 132 ∷ 133 ∷ 134 ∷ 135 ∷ 136 ∷ 137 ∷ []) $ answered (ws .0) m zs (d .0 ∙ ap (λ (u : Done). u .next) e, d .1 ∙ ap (λ (u : Done). u .answer) e, z) (answer-is m _ is) l)))))
-
-        -- what is made of the row
-        making-write : {y2 y13 y39 y40 y41 y42 : Val} (n : ℕ) (u : ℕ) → n < 2 ^ 8 → u < 2 ^ 8 → Is Control-row.the-row (h .control) (LL.val Control-row.the-type Control-row′.the-laws (h .control) ∷ []) → write n u ≡ stepFor call (bytesIn f) room → room ≡ roomFor h call room → (i : ℕ) → i ≡ windowRow (h .control) (registerAt n) → length (h .rows) ≡ 16 → Is Row.the-row (rowAt (h .rows) i) (LL.val Row.the-type Row′.the-laws (rowAt (h .rows) i) ∷ []) → Sq W (‵ (fobs γ (T.the-row .coded .code h)) ∷ ‵ (fbor κ (Body (mem T.the-row) b o γ)) ∷ ‵ (flft κ q) ∷ ‵ (flft κ-room q-room) ∷ ‵ (finally u8 γ-room room) ∷ ‵ (froom Answer-row′.mir l0 0) ∷ ‵ (fat fullShare (tyRef (named 0) mut rec-ty) l1 0 (vptr b o)) ∷ ‵ (fat fullShare Call-row′.mir l2 0 y2) ∷ ‵ (fat fullShare Frame-row′.mir l3 0 (LL.val Frame-row.the-type Frame-row′.the-laws f)) ∷ ‵ (fat fullShare (sliceTy (tyRef (named 1) mut (tyInt w8))) l4 0 s-room) ∷ ‵ (froom out-ty l5 0) ∷ ‵ (froom (tyInt w8) l6 0) ∷ ‵ (froom Control-row′.mir l7 0) ∷ ‵ (froom (tyInt w64) l8 0) ∷ ‵ (froom Row′.mir l9 0) ∷ ‵ (fat fullShare (tyInt w8) l10 0 (vint w8 n)) ∷ ‵ (fat fullShare (tyInt w8) l11 0 (vint w8 u)) ∷ ‵ (fat fullShare Control-row′.mir l12 0 (LL.val Control-row.the-type Control-row′.the-laws (h .control))) ∷ ‵ (fat fullShare (tyInt w64) l13 0 y13) ∷ ‵ (fat fullShare Row′.mir l14 0 (LL.val Row.the-type Row′.the-laws (rowAt (h .rows) i))) ∷ ‵ (froom out-ty l15 0) ∷ ‵ (froom Sync-row′.mir l16 0) ∷ ‵ (froom out-ty l17 0) ∷ ‵ (froom out-ty l18 0) ∷ ‵ (froom (tyInt w8) l19 0) ∷ ‵ (froom Ruling-row′.mir l20 0) ∷ ‵ (froom (tyInt w64) l21 0) ∷ ‵ (froom Row′.mir l22 0) ∷ ‵ (froom out-ty l23 0) ∷ ‵ (froom tyBool l24 0) ∷ ‵ (froom Ruling-row′.mir l25 0) ∷ ‵ (froom (tyInt w64) l26 0) ∷ ‵ (froom Row′.mir l27 0) ∷ ‵ (froom out-ty l28 0) ∷ ‵ (froom Fault-row′.mir l29 0) ∷ ‵ (froom out-ty l30 0) ∷ ‵ (froom out-ty l31 0) ∷ ‵ (froom Answer-row′.mir l32 0) ∷ ‵ (froom T′.mir l33 0) ∷ ‵ (froom (tyRef erased mut rec-ty) l34 0) ∷ ‵ (froom (tyInt w64) l35 0) ∷ ‵ (froom tyPtr l36 0) ∷ ‵ (froom tyPtr l37 0) ∷ ‵ (froom Row′.mir l38 0) ∷ ‵ (fat fullShare (tyInt w64) l39 0 y39) ∷ ‵ (fat fullShare tyPtr l40 0 y40) ∷ ‵ (fat fullShare tyPtr l41 0 y41) ∷ ‵ (fat fullShare Row′.mir l42 0 y42) ∷ ‵ (froom (tyRef erased mut rec-ty) l43 0) ∷ ‵ (froom T′.mir l44 0) ∷ ‵ (froom (tyRef erased mut rec-ty) l45 0) ∷ ‵ (froom T′.mir l46 0) ∷ ‵ (froom (tyRef erased mut rec-ty) l47 0) ∷ ‵ (froom T′.mir l48 0) ∷ ‵ (froom (tyInt w64) l49 0) ∷ ‵ (froom tyPtr l50 0) ∷ ‵ (froom tyPtr l51 0) ∷ ‵ (froom Row′.mir l52 0) ∷ ‵ (froom (tyRef erased mut (tyInt w8)) l53 0) ∷ ‵ (froom (sliceTy (tyRef erased mut (tyInt w8))) l54 0) ∷ ‵ (froom (tyRef erased mut rec-ty) l55 0) ∷ ‵ (froom T′.mir l56 0) ∷ ‵ (froom (tyInt w64) l57 0) ∷ ‵ (froom tyPtr l58 0) ∷ ‵ (froom tyPtr l59 0) ∷ ‵ (froom Row′.mir l60 0) ∷ ‵ (froom (tyRef erased mut rec-ty) l61 0) ∷ ‵ (froom T′.mir l62 0) ∷ ‵ (froom (tyRef erased mut rec-ty) l63 0) ∷ ‵ (froom T′.mir l64 0) ∷ ‵ (froom (tyRef erased mut rec-ty) l65 0) ∷ Dies) (runs C Λ En code-making-write (anyQ (Next call)))
-        making-write n u n-fits u-fits d-is s z i p sixteen k-is =
-            use0 W (raw ((Writes 𝓤 H A at-mem run) .pre (to-write n u (rowAt (h .rows) i)))) (asked-write n u (rowAt (h .rows) i) n-fits u-fits d-is k-is) $
-            calls-at ! fm (Writes 𝓤 H A at-mem run) known-writes (to-write n u (rowAt (h .rows) i)) (and-then ! (load ! (from ! (stop !)) (look ! 18 refl)) (and-then ! (load ! (from ! (stop !)) (look ! 16 refl)) (and-then ! (load ! (from ! (stop !)) (look ! 17 refl)) (and-then ! (load ! (from ! (stop !)) (look ! 20 refl)) (no-more !))))) (λ v.
-            use1 W (later (some (λ (x : Change). (‵ ftrue ⊛ ‵ (S.the-row .own x (v ∷ []))) ⊛ raw (ensured 𝓤 H A writes.ended (writes.clauses 𝓤 H A at-mem run) tt (args-write n u (rowAt (h .rows) i)) tt x)))) (id⊢ 𝓤 _) $ await ! tt $ pick ! (λ x.
-            split ! $ move ! (1 ∷ []) $ use1 W (some (λ (ws : Lasts writes.ended tt (args-write n u (rowAt (h .rows) i))). ‵ (lasts writes.ended tt (args-write n u (rowAt (h .rows) i)) ws) ⊛ raw (fact 𝓤 ((c : Controller) → c .control ≡ h .control → length (c .rows) ≡ 16 → rowAt (h .rows) i ≡ rowAt (c .rows) (windowRow (h .control) (registerAt n)) → changed c x ≡ doneOf (stepOf c (write n u)))))) (id⊢ 𝓤 _) $ pick ! (λ ws.
-            split ! $ move ! (1 ∷ []) $ heard ! ((c : Controller) → c .control ≡ h .control → length (c .rows) ≡ 16 → rowAt (h .rows) i ≡ rowAt (c .rows) (windowRow (h .control) (registerAt n)) → changed c x ≡ doneOf (stepOf c (write n u))) (λ g. drop ! $ split ! $ drop ! $
-            peeks ! S.the-row (Is S.the-row) (shows 𝓤 H A S.the-row) x (v ∷ []) (λ is. drop ! $
-            land ! (from ! (stop !)) (init ! 20 refl (LL.lawful S.the-type S′.the-laws 𝓤 H A W .typed x _ is .0)) $ rewrite ! 20 (λ (u : Val). ‵ (fat fullShare out-ty l15 0 u)) (ap only (LL.tells S.the-type S′.the-laws x _ is)) refl $
-            carried-write x (change-is x _ is) (g h refl sixteen (ap (rowAt (h .rows)) p) ∙ ap (λ (s : Step). doneOf (stepOf h s)) s) room z refl)))))
-
-        -- the row is read
-        reading-write : {y2 : Val} (n : ℕ) (u : ℕ) → n < 2 ^ 8 → u < 2 ^ 8 → Is Control-row.the-row (h .control) (LL.val Control-row.the-type Control-row′.the-laws (h .control) ∷ []) → write n u ≡ stepFor call (bytesIn f) room → room ≡ roomFor h call room → (i : ℕ) → i ≡ windowRow (h .control) (registerAt n) → Sq W (‵ (fobs γ (T.the-row .coded .code h)) ∷ ‵ (fbor κ (Body (mem T.the-row) b o γ)) ∷ ‵ (flft κ q) ∷ ‵ (flft κ-room q-room) ∷ ‵ (finally u8 γ-room room) ∷ ‵ (froom Answer-row′.mir l0 0) ∷ ‵ (fat fullShare (tyRef (named 0) mut rec-ty) l1 0 (vptr b o)) ∷ ‵ (fat fullShare Call-row′.mir l2 0 y2) ∷ ‵ (fat fullShare Frame-row′.mir l3 0 (LL.val Frame-row.the-type Frame-row′.the-laws f)) ∷ ‵ (fat fullShare (sliceTy (tyRef (named 1) mut (tyInt w8))) l4 0 s-room) ∷ ‵ (froom out-ty l5 0) ∷ ‵ (froom (tyInt w8) l6 0) ∷ ‵ (froom Control-row′.mir l7 0) ∷ ‵ (froom (tyInt w64) l8 0) ∷ ‵ (froom Row′.mir l9 0) ∷ ‵ (fat fullShare (tyInt w8) l10 0 (vint w8 n)) ∷ ‵ (fat fullShare (tyInt w8) l11 0 (vint w8 u)) ∷ ‵ (fat fullShare Control-row′.mir l12 0 (LL.val Control-row.the-type Control-row′.the-laws (h .control))) ∷ ‵ (fat fullShare (tyInt w64) l13 0 (vint w64 i)) ∷ ‵ (froom Row′.mir l14 0) ∷ ‵ (froom out-ty l15 0) ∷ ‵ (froom Sync-row′.mir l16 0) ∷ ‵ (froom out-ty l17 0) ∷ ‵ (froom out-ty l18 0) ∷ ‵ (froom (tyInt w8) l19 0) ∷ ‵ (froom Ruling-row′.mir l20 0) ∷ ‵ (froom (tyInt w64) l21 0) ∷ ‵ (froom Row′.mir l22 0) ∷ ‵ (froom out-ty l23 0) ∷ ‵ (froom tyBool l24 0) ∷ ‵ (froom Ruling-row′.mir l25 0) ∷ ‵ (froom (tyInt w64) l26 0) ∷ ‵ (froom Row′.mir l27 0) ∷ ‵ (froom out-ty l28 0) ∷ ‵ (froom Fault-row′.mir l29 0) ∷ ‵ (froom out-ty l30 0) ∷ ‵ (froom out-ty l31 0) ∷ ‵ (froom Answer-row′.mir l32 0) ∷ ‵ (froom T′.mir l33 0) ∷ ‵ (froom (tyRef erased mut rec-ty) l34 0) ∷ ‵ (froom (tyInt w64) l35 0) ∷ ‵ (froom tyPtr l36 0) ∷ ‵ (froom tyPtr l37 0) ∷ ‵ (froom Row′.mir l38 0) ∷ ‵ (froom (tyInt w64) l39 0) ∷ ‵ (froom tyPtr l40 0) ∷ ‵ (froom tyPtr l41 0) ∷ ‵ (froom Row′.mir l42 0) ∷ ‵ (froom (tyRef erased mut rec-ty) l43 0) ∷ ‵ (froom T′.mir l44 0) ∷ ‵ (froom (tyRef erased mut rec-ty) l45 0) ∷ ‵ (froom T′.mir l46 0) ∷ ‵ (froom (tyRef erased mut rec-ty) l47 0) ∷ ‵ (froom T′.mir l48 0) ∷ ‵ (froom (tyInt w64) l49 0) ∷ ‵ (froom tyPtr l50 0) ∷ ‵ (froom tyPtr l51 0) ∷ ‵ (froom Row′.mir l52 0) ∷ ‵ (froom (tyRef erased mut (tyInt w8)) l53 0) ∷ ‵ (froom (sliceTy (tyRef erased mut (tyInt w8))) l54 0) ∷ ‵ (froom (tyRef erased mut rec-ty) l55 0) ∷ ‵ (froom T′.mir l56 0) ∷ ‵ (froom (tyInt w64) l57 0) ∷ ‵ (froom tyPtr l58 0) ∷ ‵ (froom tyPtr l59 0) ∷ ‵ (froom Row′.mir l60 0) ∷ ‵ (froom (tyRef erased mut rec-ty) l61 0) ∷ ‵ (froom T′.mir l62 0) ∷ ‵ (froom (tyRef erased mut rec-ty) l63 0) ∷ ‵ (froom T′.mir l64 0) ∷ ‵ (froom (tyRef erased mut rec-ty) l65 0) ∷ Dies) (runs C Λ En code-reading-write (anyQ (Next call)))
-        reading-write n u n-fits u-fits d-is s z i p =
-            opens ! tt T.the-row {h = h} b o (λ vs. spelt ! T.the-row (Is T.the-row) (shows 𝓤 H A T.the-row) (LL.vals T.the-type T′.the-laws) (LL.tells T.the-type T′.the-laws) fullShare h vs b o $
-            move ! (1 ∷ []) $ peeks ! T.the-row (Is T.the-row) (shows 𝓤 H A T.the-row) h (mach h ∷ []) (λ was.
-            assigns ! (bin ! (load ! (from ! (stop !)) (look ! 20 refl)) (lit ! tt) (record { fits = byte-fits i (window-below (h .control) (registerAt n) i p) })) (from ! (stop !)) (init ! 46 refl (tt, record { fits = byte-fits i (window-below (h .control) (registerAt n) i p) })) $
-            assigns ! (addr ! (from ! (hop ! (look ! 8 refl) (fld ! refl (stop !))))) (from ! (stop !)) (init ! 47 refl (tt, tt)) $
-            assigns ! (bin ! (load ! (from ! (stop !)) (look ! 47 refl)) (load ! (from ! (stop !)) (look ! 46 refl)) tt) (from ! (stop !)) (init ! 48 refl (tt, tt)) $
-            rewrite ! 48 (λ (m : ℕ). ‵ (fat fullShare tyPtr l41 0 (vptr b m))) (sym (place-is 14 (o + at-rows) i)) refl $
-            move ! (1 ∷ []) $ use1 W (‵ (fat fullShare T′.mir b o (mach h))) (W .laws .raw-at fullShare T′.mir b o (mach h)) $
-            assigns ! (of-opd ! (load ! (from ! (hop ! (look ! 48 refl) (stop !))) (look-in ! 0 (elem-at ! (values (h .rows)) i (LL.val Row.the-type Row′.the-laws noContents) (LL.val Row.the-type Row′.the-laws (rowAt (h .rows) i)) (value-at (h .rows) i) (in-rows h was i (window-below (h .control) (registerAt n) i p)) (sixteen-values h was) (sub ! 1 refl (whole !)))))) (from ! (stop !)) (init ! 49 refl (LL.lawful Row.the-type Row′.the-laws 𝓤 H A W .typed (rowAt (h .rows) i) _ (row-is h was i (window-below (h .control) (registerAt n) i p)) .0)) $
-            use1 W (‵ (cellAt fullShare (T.the-row .mir) (mach h ∷ []) b o)) (W .laws .at-raw fullShare T′.mir b o (mach h)) $
-            closes ! tt T.the-row h (mach h ∷ []) b o $
-            assigns ! (of-opd ! (load ! (from ! (stop !)) (look ! 47 refl))) (from ! (stop !)) (init ! 19 refl (LL.lawful Row.the-type Row′.the-laws 𝓤 H A W .typed (rowAt (h .rows) i) _ (row-is h was i (window-below (h .control) (registerAt n) i p)) .0)) $
-            making-write n u n-fits u-fits d-is s z i p (sixteen-rows h was) (row-is h was i (window-below (h .control) (registerAt n) i p))))
-
-        -- the row to look at
-        finding-write : {y2 : Val} (n : ℕ) (u : ℕ) → n < 2 ^ 8 → u < 2 ^ 8 → Is Control-row.the-row (h .control) (LL.val Control-row.the-type Control-row′.the-laws (h .control) ∷ []) → write n u ≡ stepFor call (bytesIn f) room → room ≡ roomFor h call room → Sq W (‵ (fobs γ (T.the-row .coded .code h)) ∷ ‵ (fbor κ (Body (mem T.the-row) b o γ)) ∷ ‵ (flft κ q) ∷ ‵ (flft κ-room q-room) ∷ ‵ (finally u8 γ-room room) ∷ ‵ (froom Answer-row′.mir l0 0) ∷ ‵ (fat fullShare (tyRef (named 0) mut rec-ty) l1 0 (vptr b o)) ∷ ‵ (fat fullShare Call-row′.mir l2 0 y2) ∷ ‵ (fat fullShare Frame-row′.mir l3 0 (LL.val Frame-row.the-type Frame-row′.the-laws f)) ∷ ‵ (fat fullShare (sliceTy (tyRef (named 1) mut (tyInt w8))) l4 0 s-room) ∷ ‵ (froom out-ty l5 0) ∷ ‵ (froom (tyInt w8) l6 0) ∷ ‵ (froom Control-row′.mir l7 0) ∷ ‵ (froom (tyInt w64) l8 0) ∷ ‵ (froom Row′.mir l9 0) ∷ ‵ (fat fullShare (tyInt w8) l10 0 (vint w8 n)) ∷ ‵ (fat fullShare (tyInt w8) l11 0 (vint w8 u)) ∷ ‵ (fat fullShare Control-row′.mir l12 0 (LL.val Control-row.the-type Control-row′.the-laws (h .control))) ∷ ‵ (froom (tyInt w64) l13 0) ∷ ‵ (froom Row′.mir l14 0) ∷ ‵ (froom out-ty l15 0) ∷ ‵ (froom Sync-row′.mir l16 0) ∷ ‵ (froom out-ty l17 0) ∷ ‵ (froom out-ty l18 0) ∷ ‵ (froom (tyInt w8) l19 0) ∷ ‵ (froom Ruling-row′.mir l20 0) ∷ ‵ (froom (tyInt w64) l21 0) ∷ ‵ (froom Row′.mir l22 0) ∷ ‵ (froom out-ty l23 0) ∷ ‵ (froom tyBool l24 0) ∷ ‵ (froom Ruling-row′.mir l25 0) ∷ ‵ (froom (tyInt w64) l26 0) ∷ ‵ (froom Row′.mir l27 0) ∷ ‵ (froom out-ty l28 0) ∷ ‵ (froom Fault-row′.mir l29 0) ∷ ‵ (froom out-ty l30 0) ∷ ‵ (froom out-ty l31 0) ∷ ‵ (froom Answer-row′.mir l32 0) ∷ ‵ (froom T′.mir l33 0) ∷ ‵ (froom (tyRef erased mut rec-ty) l34 0) ∷ ‵ (froom (tyInt w64) l35 0) ∷ ‵ (froom tyPtr l36 0) ∷ ‵ (froom tyPtr l37 0) ∷ ‵ (froom Row′.mir l38 0) ∷ ‵ (froom (tyInt w64) l39 0) ∷ ‵ (froom tyPtr l40 0) ∷ ‵ (froom tyPtr l41 0) ∷ ‵ (froom Row′.mir l42 0) ∷ ‵ (froom (tyRef erased mut rec-ty) l43 0) ∷ ‵ (froom T′.mir l44 0) ∷ ‵ (froom (tyRef erased mut rec-ty) l45 0) ∷ ‵ (froom T′.mir l46 0) ∷ ‵ (froom (tyRef erased mut rec-ty) l47 0) ∷ ‵ (froom T′.mir l48 0) ∷ ‵ (froom (tyInt w64) l49 0) ∷ ‵ (froom tyPtr l50 0) ∷ ‵ (froom tyPtr l51 0) ∷ ‵ (froom Row′.mir l52 0) ∷ ‵ (froom (tyRef erased mut (tyInt w8)) l53 0) ∷ ‵ (froom (sliceTy (tyRef erased mut (tyInt w8))) l54 0) ∷ ‵ (froom (tyRef erased mut rec-ty) l55 0) ∷ ‵ (froom T′.mir l56 0) ∷ ‵ (froom (tyInt w64) l57 0) ∷ ‵ (froom tyPtr l58 0) ∷ ‵ (froom tyPtr l59 0) ∷ ‵ (froom Row′.mir l60 0) ∷ ‵ (froom (tyRef erased mut rec-ty) l61 0) ∷ ‵ (froom T′.mir l62 0) ∷ ‵ (froom (tyRef erased mut rec-ty) l63 0) ∷ ‵ (froom T′.mir l64 0) ∷ ‵ (froom (tyRef erased mut rec-ty) l65 0) ∷ Dies) (runs C Λ En code-finding-write (anyQ (Next call)))
-        finding-write n u n-fits u-fits d-is s z =
-            use0 W (raw ((Windows 𝓤 H A at-mem run) .pre (to-windows n))) (asked-windows n n-fits d-is) $
-            calls-at ! fm (Windows 𝓤 H A at-mem run) known-windows (to-windows n) (and-then ! (load ! (from ! (stop !)) (look ! 18 refl)) (and-then ! (load ! (from ! (stop !)) (look ! 16 refl)) (no-more !))) (λ v.
-            use1 W (later (some (λ (i : ℕ). (‵ ftrue ⊛ ‵ (usize .own i (v ∷ []))) ⊛ raw (ensured 𝓤 H A windows.ended (windows.clauses 𝓤 H A at-mem run) tt (h .control, (n, tt)) tt i)))) (id⊢ 𝓤 _) $ await ! tt $ pick ! (λ i.
-            split ! $ move ! (1 ∷ []) $ use1 W (some (λ (ws : Lasts windows.ended tt (h .control, (n, tt))). ‵ (lasts windows.ended tt (h .control, (n, tt)) ws) ⊛ raw (fact 𝓤 (i ≡ windowRow (h .control) (registerAt n))))) (id⊢ 𝓤 _) $ pick ! (λ ws.
-            split ! $ move ! (1 ∷ []) $ heard ! (i ≡ windowRow (h .control) (registerAt n)) (λ p. drop ! $ split ! $ drop ! $
-            peeks ! usize (Is usize) (shows 𝓤 H A usize) i (v ∷ []) (λ is. drop ! $
-            land ! (from ! (stop !)) (init ! 18 refl (uint-lawful 𝓤 H A W w64 .typed i _ is .0)) $ rewrite ! 18 (λ (u : Val). ‵ (fat fullShare (tyInt w64) l13 0 u)) (ap only (is .0)) refl $
-            reading-write n u n-fits u-fits d-is s z i p)))))
+            keep ! (3 ∷ 4 ∷ 5 ∷ 6 ∷ 0 ∷ 7 ∷ 8 ∷ 9 ∷ 10 ∷ 11 ∷ 12 ∷ 13 ∷ 14 ∷ 15 ∷ 16 ∷ 17 ∷ 18 ∷ 19 ∷ 20 ∷ 21 ∷ 22 ∷ 23 ∷ 24 ∷ 25 ∷ 26 ∷ 27 ∷ 28 ∷ 29 ∷ 30 ∷ 31 ∷ 32 ∷ 33 ∷ 34 ∷ 35 ∷ 36 ∷ 37 ∷ 38 ∷ 39 ∷ 40 ∷ 41 ∷ 42 ∷ 43 ∷ 44 ∷ 45 ∷ 46 ∷ 47 ∷ 48 ∷ 49 ∷ 50 ∷ 51 ∷ 52 ∷ 53 ∷ 54 ∷ 55 ∷ 56 ∷ 57 ∷ 58 ∷ 59 ∷ 60 ∷ 61 ∷ 62 ∷ 63 ∷ 64 ∷ 65 ∷ 66 ∷ 67 ∷ 68 ∷ 69 ∷ 70 ∷ 71 ∷ 72 ∷ 73 ∷ 74 ∷ 75 ∷ 76 ∷ 77 ∷ 78 ∷ 79 ∷ 80 ∷ 81 ∷ 82 ∷ 83 ∷ 84 ∷ 85 ∷ 86 ∷ 87 ∷ 88 ∷ 89 ∷ 90 ∷ 91 ∷ 92 ∷ 93 ∷ 94 ∷ 95 ∷ 96 ∷ 97 ∷ 98 ∷ 99 ∷ 100 ∷ 101 ∷ 102 ∷ 103 ∷ 104 ∷ 105 ∷ 106 ∷ 107 ∷ 108 ∷ 109 ∷ 110 ∷ 111 ∷ 112 ∷ 113 ∷ 114 ∷ 115 ∷ 116 ∷ 117 ∷ 118 ∷ 119 ∷ 120 ∷ 121 ∷ 122 ∷ []) $ finding-read n n-fits (control-is h was) s z))
 
         -- Write
-        on-write : {y2 : Val} (n : ℕ) (u : ℕ) → n < 2 ^ 8 → u < 2 ^ 8 → write n u ≡ stepFor call (bytesIn f) room → room ≡ roomFor h call room → Sq W (‵ Rec ∷ ‵ (flft κ q) ∷ ‵ Room′ ∷ ‵ (flft κ-room q-room) ∷ ‵ (froom Answer-row′.mir l0 0) ∷ ‵ (fat fullShare (tyRef (named 0) mut rec-ty) l1 0 (vptr b o)) ∷ ‵ (fat fullShare Call-row′.mir l2 0 y2) ∷ ‵ (fat fullShare Frame-row′.mir l3 0 (LL.val Frame-row.the-type Frame-row′.the-laws f)) ∷ ‵ (fat fullShare (sliceTy (tyRef (named 1) mut (tyInt w8))) l4 0 s-room) ∷ ‵ (froom out-ty l5 0) ∷ ‵ (froom (tyInt w8) l6 0) ∷ ‵ (froom Control-row′.mir l7 0) ∷ ‵ (froom (tyInt w64) l8 0) ∷ ‵ (froom Row′.mir l9 0) ∷ ‵ (fat fullShare (tyInt w8) l10 0 (vint w8 n)) ∷ ‵ (fat fullShare (tyInt w8) l11 0 (vint w8 u)) ∷ ‵ (froom Control-row′.mir l12 0) ∷ ‵ (froom (tyInt w64) l13 0) ∷ ‵ (froom Row′.mir l14 0) ∷ ‵ (froom out-ty l15 0) ∷ ‵ (froom Sync-row′.mir l16 0) ∷ ‵ (froom out-ty l17 0) ∷ ‵ (froom out-ty l18 0) ∷ ‵ (froom (tyInt w8) l19 0) ∷ ‵ (froom Ruling-row′.mir l20 0) ∷ ‵ (froom (tyInt w64) l21 0) ∷ ‵ (froom Row′.mir l22 0) ∷ ‵ (froom out-ty l23 0) ∷ ‵ (froom tyBool l24 0) ∷ ‵ (froom Ruling-row′.mir l25 0) ∷ ‵ (froom (tyInt w64) l26 0) ∷ ‵ (froom Row′.mir l27 0) ∷ ‵ (froom out-ty l28 0) ∷ ‵ (froom Fault-row′.mir l29 0) ∷ ‵ (froom out-ty l30 0) ∷ ‵ (froom out-ty l31 0) ∷ ‵ (froom Answer-row′.mir l32 0) ∷ ‵ (froom T′.mir l33 0) ∷ ‵ (froom (tyRef erased mut rec-ty) l34 0) ∷ ‵ (froom (tyInt w64) l35 0) ∷ ‵ (froom tyPtr l36 0) ∷ ‵ (froom tyPtr l37 0) ∷ ‵ (froom Row′.mir l38 0) ∷ ‵ (froom (tyInt w64) l39 0) ∷ ‵ (froom tyPtr l40 0) ∷ ‵ (froom tyPtr l41 0) ∷ ‵ (froom Row′.mir l42 0) ∷ ‵ (froom (tyRef erased mut rec-ty) l43 0) ∷ ‵ (froom T′.mir l44 0) ∷ ‵ (froom (tyRef erased mut rec-ty) l45 0) ∷ ‵ (froom T′.mir l46 0) ∷ ‵ (froom (tyRef erased mut rec-ty) l47 0) ∷ ‵ (froom T′.mir l48 0) ∷ ‵ (froom (tyInt w64) l49 0) ∷ ‵ (froom tyPtr l50 0) ∷ ‵ (froom tyPtr l51 0) ∷ ‵ (froom Row′.mir l52 0) ∷ ‵ (froom (tyRef erased mut (tyInt w8)) l53 0) ∷ ‵ (froom (sliceTy (tyRef erased mut (tyInt w8))) l54 0) ∷ ‵ (froom (tyRef erased mut rec-ty) l55 0) ∷ ‵ (froom T′.mir l56 0) ∷ ‵ (froom (tyInt w64) l57 0) ∷ ‵ (froom tyPtr l58 0) ∷ ‵ (froom tyPtr l59 0) ∷ ‵ (froom Row′.mir l60 0) ∷ ‵ (froom (tyRef erased mut rec-ty) l61 0) ∷ ‵ (froom T′.mir l62 0) ∷ ‵ (froom (tyRef erased mut rec-ty) l63 0) ∷ ‵ (froom T′.mir l64 0) ∷ ‵ (froom (tyRef erased mut rec-ty) l65 0) ∷ Dies) (runs C Λ En code-write (anyQ (Next call)))
+        on-write : {y2 : Val} (n : ℕ) (u : ℕ) → n < 2 ^ 8 → u < 2 ^ 8 → write n u ≡ stepFor call (bytesIn f) room → room ≡ roomFor h call room → Sq W (‵ Rec ∷ ‵ (flft κ q) ∷ ‵ Room′ ∷ ‵ (flft κ-room q-room) ∷ ‵ (froom Answer-row′.mir l0 0) ∷ ‵ (fat fullShare (tyRef (named 0) mut rec-ty) l1 0 (vptr b o)) ∷ ‵ (fat fullShare Call-row′.mir l2 0 y2) ∷ ‵ (fat fullShare Frame-row′.mir l3 0 (LL.val Frame-row.the-type Frame-row′.the-laws f)) ∷ ‵ (fat fullShare (sliceTy (tyRef (named 1) mut (tyInt w8))) l4 0 s-room) ∷ ‵ (froom out-ty l5 0) ∷ ‵ (froom (tyInt w8) l6 0) ∷ ‵ (froom Control-row′.mir l7 0) ∷ ‵ (froom (tyInt w64) l8 0) ∷ ‵ (froom Row′.mir l9 0) ∷ ‵ (fat fullShare (tyInt w8) l10 0 (vint w8 n)) ∷ ‵ (fat fullShare (tyInt w8) l11 0 (vint w8 u)) ∷ ‵ (froom Sync-row′.mir l12 0) ∷ ‵ (froom out-ty l13 0) ∷ ‵ (froom out-ty l14 0) ∷ ‵ (froom (tyInt w8) l15 0) ∷ ‵ (froom Ruling-row′.mir l16 0) ∷ ‵ (froom (tyInt w64) l17 0) ∷ ‵ (froom Row′.mir l18 0) ∷ ‵ (froom out-ty l19 0) ∷ ‵ (froom tyBool l20 0) ∷ ‵ (froom Ruling-row′.mir l21 0) ∷ ‵ (froom (tyInt w64) l22 0) ∷ ‵ (froom Row′.mir l23 0) ∷ ‵ (froom out-ty l24 0) ∷ ‵ (froom Fault-row′.mir l25 0) ∷ ‵ (froom out-ty l26 0) ∷ ‵ (froom out-ty l27 0) ∷ ‵ (froom Answer-row′.mir l28 0) ∷ ‵ (froom T′.mir l29 0) ∷ ‵ (froom (tyRef erased mut rec-ty) l30 0) ∷ ‵ (froom (tyInt w64) l31 0) ∷ ‵ (froom tyPtr l32 0) ∷ ‵ (froom tyPtr l33 0) ∷ ‵ (froom Row′.mir l34 0) ∷ ‵ (froom (tyRef erased mut rec-ty) l35 0) ∷ ‵ (froom T′.mir l36 0) ∷ ‵ (froom (tyRef erased mut rec-ty) l37 0) ∷ ‵ (froom T′.mir l38 0) ∷ ‵ (froom (tyRef erased mut rec-ty) l39 0) ∷ ‵ (froom T′.mir l40 0) ∷ ‵ (froom (tyInt w64) l41 0) ∷ ‵ (froom tyPtr l42 0) ∷ ‵ (froom tyPtr l43 0) ∷ ‵ (froom Row′.mir l44 0) ∷ ‵ (froom (tyRef erased mut (tyInt w8)) l45 0) ∷ ‵ (froom (sliceTy (tyRef erased mut (tyInt w8))) l46 0) ∷ ‵ (froom (tyRef erased mut rec-ty) l47 0) ∷ ‵ (froom T′.mir l48 0) ∷ ‵ (froom (tyInt w64) l49 0) ∷ ‵ (froom tyPtr l50 0) ∷ ‵ (froom tyPtr l51 0) ∷ ‵ (froom Row′.mir l52 0) ∷ ‵ (froom (tyRef erased mut rec-ty) l53 0) ∷ ‵ (froom T′.mir l54 0) ∷ ‵ (froom (tyRef erased mut rec-ty) l55 0) ∷ ‵ (froom T′.mir l56 0) ∷ ‵ (froom (tyRef erased mut rec-ty) l57 0) ∷ Dies) (runs C Λ En code-write (anyQ (Next call)))
         on-write n u n-fits u-fits s z =
-            fsplit3 ! $ drop ! $
-            opens ! tt T.the-row {h = h} b o (λ vs. spelt ! T.the-row (Is T.the-row) (shows 𝓤 H A T.the-row) (LL.vals T.the-type T′.the-laws) (LL.tells T.the-type T′.the-laws) fullShare h vs b o $
-            move ! (1 ∷ []) $ peeks ! T.the-row (Is T.the-row) (shows 𝓤 H A T.the-row) h (mach h ∷ []) (λ was.
-            move ! (1 ∷ []) $ use1 W (‵ (fat fullShare T′.mir b o (mach h))) (W .laws .raw-at fullShare T′.mir b o (mach h)) $
-            assigns ! (of-opd ! (load ! (from ! (hop ! (look ! 8 refl) (fld ! refl (stop !)))) (look-in ! 0 (sub ! 0 refl (whole !))))) (from ! (stop !)) (init ! 19 refl (LL.lawful Control-row.the-type Control-row′.the-laws 𝓤 H A W .typed (h .control) _ (control-is h was) .0)) $
-            use1 W (‵ (cellAt fullShare (T.the-row .mir) (mach h ∷ []) b o)) (W .laws .at-raw fullShare T′.mir b o (mach h)) $
-            closes ! tt T.the-row h (mach h ∷ []) b o $
-            move ! (3 ∷ []) $ fsplit ! $ move ! (1 ∷ []) $ fsplit ! $
+            fsplit3 ! $ drop ! $ move ! (3 ∷ []) $ fsplit ! $ move ! (1 ∷ []) $ fsplit ! $
             use1 W (‵ (fres γ-room (codedHoleys u8 .code (heres u8 room)))) (W .names .obs-res γ-room (codedHoleys u8 .code (heres u8 room))) $ use1 W (‵ (finally u8 γ-room room)) (res-finally 𝓤 H A W (named 1) κ-room u8 γ-room room) $
-            keep ! (3 ∷ 4 ∷ 5 ∷ 6 ∷ 0 ∷ 7 ∷ 8 ∷ 9 ∷ 10 ∷ 11 ∷ 12 ∷ 13 ∷ 14 ∷ 15 ∷ 16 ∷ 17 ∷ 18 ∷ 19 ∷ 20 ∷ 21 ∷ 22 ∷ 23 ∷ 24 ∷ 25 ∷ 26 ∷ 27 ∷ 28 ∷ 29 ∷ 30 ∷ 31 ∷ 32 ∷ 33 ∷ 34 ∷ 35 ∷ 36 ∷ 37 ∷ 38 ∷ 39 ∷ 40 ∷ 41 ∷ 42 ∷ 43 ∷ 44 ∷ 45 ∷ 46 ∷ 47 ∷ 48 ∷ 49 ∷ 50 ∷ 51 ∷ 52 ∷ 53 ∷ 54 ∷ 55 ∷ 56 ∷ 57 ∷ 58 ∷ 59 ∷ 60 ∷ 61 ∷ 62 ∷ 63 ∷ 64 ∷ 65 ∷ 66 ∷ 67 ∷ 68 ∷ 69 ∷ 70 ∷ 71 ∷ 72 ∷ 73 ∷ 74 ∷ 75 ∷ 76 ∷ 77 ∷ 78 ∷ 79 ∷ 80 ∷ 81 ∷ 82 ∷ 83 ∷ 84 ∷ 85 ∷ 86 ∷ 87 ∷ 88 ∷ 89 ∷ 90 ∷ 91 ∷ 92 ∷ 93 ∷ 94 ∷ 95 ∷ 96 ∷ 97 ∷ 98 ∷ 99 ∷ 100 ∷ 101 ∷ 102 ∷ 103 ∷ 104 ∷ 105 ∷ 106 ∷ 107 ∷ 108 ∷ 109 ∷ 110 ∷ 111 ∷ 112 ∷ 113 ∷ 114 ∷ 115 ∷ 116 ∷ 117 ∷ 118 ∷ 119 ∷ 120 ∷ 121 ∷ 122 ∷ 123 ∷ 124 ∷ 125 ∷ 126 ∷ 127 ∷ 128 ∷ 129 ∷ 130 ∷ 131 ∷ 132 ∷ 133 ∷ 134 ∷ 135 ∷ 136 ∷ 137 ∷ 138 ∷ []) $ finding-write n u n-fits u-fits (control-is h was) s z))
+            assigns ! (addr ! (from ! (hop ! (look ! 8 refl) (stop !)))) (from ! (stop !)) (init ! 42 refl (tt, tt)) $
+            move ! (3 ∷ 4 ∷ 5 ∷ []) $ group ! 3 $ use1 W (raw ((Writes 𝓤 H A at-mem run) .pre (to-write n u))) (asked-write n u n-fits u-fits) $
+            calls-at-last ! fm (Writes 𝓤 H A at-mem run) known-writes (to-write n u) (and-then ! (load ! (from ! (stop !)) (look ! 40 refl)) (and-then ! (load ! (from ! (stop !)) (look ! 15 refl)) (and-then ! (load ! (from ! (stop !)) (look ! 16 refl)) (no-more !)))) (λ v.
+            use1 W (later (some (λ (m : Answer). ((‵ (flft κ q) ⊛ ‵ ftrue) ⊛ ‵ (Answer-row.the-row .own m (v ∷ []))) ⊛ raw (ensured 𝓤 H A writes.ended (writes.clauses 𝓤 H A at-mem run) (κ, tt) (args-write n u) tt m)))) (id⊢ 𝓤 _) $ await ! tt $ pick ! (λ m.
+            split ! $ move ! (1 ∷ []) $ use1 W (some (λ (ws : Lasts writes.ended (κ, tt) (args-write n u)). ‵ (lasts writes.ended (κ, tt) (args-write n u) ws) ⊛ raw (fact 𝓤 ((ws .0 ≡ next (write n u)) × (m ≡ answer (write n u)))))) (id⊢ 𝓤 _) $ pick ! (λ ws.
+            split ! $ move ! (1 ∷ []) $ heard ! ((ws .0 ≡ next (write n u)) × (m ≡ answer (write n u))) (λ d. fsplit ! $
+            move ! (2 ∷ []) $ split ! $ move ! (1 ∷ []) $ peeks ! Answer-row.the-row (Is Answer-row.the-row) (shows 𝓤 H A Answer-row.the-row) m (v ∷ []) (λ is. drop ! $ split ! $
+            land-last ! (from ! (stop !)) (init ! 36 refl (EL.lawful Answer-row.the-type Answer-row′.the-laws 𝓤 H A W tt .typed m _ is .0)) $ rewrite ! 36 (λ (u : Val). ‵ (fat fullShare Answer-row′.mir l28 0 u)) (ap only (EL.tells Answer-row.the-type Answer-row′.the-laws m _ is)) refl $
+            exec ! C Λ En pieces.t-2 (atRet En (Post call)) $ forget ! 18 refl $ forget ! 19 refl $ forget ! 43 refl $
+            keep ! (2 ∷ 0 ∷ 7 ∷ 4 ∷ 8 ∷ 9 ∷ 10 ∷ 11 ∷ 12 ∷ 13 ∷ 14 ∷ 15 ∷ 16 ∷ 17 ∷ 18 ∷ 19 ∷ 20 ∷ 21 ∷ 22 ∷ 23 ∷ 24 ∷ 25 ∷ 26 ∷ 27 ∷ 28 ∷ 29 ∷ 30 ∷ 31 ∷ 32 ∷ 33 ∷ 34 ∷ 35 ∷ 36 ∷ 37 ∷ 38 ∷ 39 ∷ 40 ∷ 41 ∷ 42 ∷ 43 ∷ 44 ∷ 45 ∷ 46 ∷ 47 ∷ 48 ∷ 49 ∷ 50 ∷ 51 ∷ 52 ∷ 53 ∷ 54 ∷ 55 ∷ 56 ∷ 57 ∷ 58 ∷ 59 ∷ 60 ∷ 61 ∷ 62 ∷ 63 ∷ 64 ∷ 65 ∷ 66 ∷ 67 ∷ 68 ∷ 69 ∷ 70 ∷ 71 ∷ 72 ∷ 73 ∷ 74 ∷ 75 ∷ 76 ∷ 77 ∷ 78 ∷ 79 ∷ 80 ∷ 81 ∷ 82 ∷ 83 ∷ 84 ∷ 85 ∷ 86 ∷ 87 ∷ 88 ∷ 89 ∷ 90 ∷ 91 ∷ 92 ∷ 93 ∷ 94 ∷ 95 ∷ 96 ∷ 97 ∷ 98 ∷ 99 ∷ 100 ∷ 101 ∷ 102 ∷ 103 ∷ 104 ∷ 105 ∷ 106 ∷ 107 ∷ 108 ∷ 109 ∷ 110 ∷ 111 ∷ 112 ∷ 113 ∷ 114 ∷ 115 ∷ 116 ∷ 117 ∷ 118 ∷ 119 ∷ 120 ∷ 121 ∷ 122 ∷ 123 ∷ []) $ answered (ws .0) m room (d .0 ∙ ap next s, d .1 ∙ ap answer s, z) (answer-is m _ is) refl)))))
 
         -- what `Sync` changes is carried out
-        carried-sync : {y2 y16 y44 : Val} (x : Change) → Is S.the-row x (LL.val S.the-type S′.the-laws x ∷ []) → changed h x ≡ doneOf (stepOf h (stepFor call (bytesIn f) room)) → (zs : List ℕ) → zs ≡ roomFor h call room → length zs ≡ length room → Sq W (‵ (fobs γ (T.the-row .coded .code h)) ∷ ‵ (fbor κ (Body (mem T.the-row) b o γ)) ∷ ‵ (flft κ q) ∷ ‵ (flft κ-room q-room) ∷ ‵ (finally u8 γ-room zs) ∷ ‵ (froom Answer-row′.mir l0 0) ∷ ‵ (fat fullShare (tyRef (named 0) mut rec-ty) l1 0 (vptr b o)) ∷ ‵ (fat fullShare Call-row′.mir l2 0 y2) ∷ ‵ (fat fullShare Frame-row′.mir l3 0 (LL.val Frame-row.the-type Frame-row′.the-laws f)) ∷ ‵ (fat fullShare (sliceTy (tyRef (named 1) mut (tyInt w8))) l4 0 s-room) ∷ ‵ (froom out-ty l5 0) ∷ ‵ (froom (tyInt w8) l6 0) ∷ ‵ (froom Control-row′.mir l7 0) ∷ ‵ (froom (tyInt w64) l8 0) ∷ ‵ (froom Row′.mir l9 0) ∷ ‵ (froom (tyInt w8) l10 0) ∷ ‵ (froom (tyInt w8) l11 0) ∷ ‵ (froom Control-row′.mir l12 0) ∷ ‵ (froom (tyInt w64) l13 0) ∷ ‵ (froom Row′.mir l14 0) ∷ ‵ (froom out-ty l15 0) ∷ ‵ (fat fullShare Sync-row′.mir l16 0 y16) ∷ ‵ (fat fullShare out-ty l17 0 (LL.val S.the-type S′.the-laws x)) ∷ ‵ (froom out-ty l18 0) ∷ ‵ (froom (tyInt w8) l19 0) ∷ ‵ (froom Ruling-row′.mir l20 0) ∷ ‵ (froom (tyInt w64) l21 0) ∷ ‵ (froom Row′.mir l22 0) ∷ ‵ (froom out-ty l23 0) ∷ ‵ (froom tyBool l24 0) ∷ ‵ (froom Ruling-row′.mir l25 0) ∷ ‵ (froom (tyInt w64) l26 0) ∷ ‵ (froom Row′.mir l27 0) ∷ ‵ (froom out-ty l28 0) ∷ ‵ (froom Fault-row′.mir l29 0) ∷ ‵ (froom out-ty l30 0) ∷ ‵ (froom out-ty l31 0) ∷ ‵ (froom Answer-row′.mir l32 0) ∷ ‵ (froom T′.mir l33 0) ∷ ‵ (froom (tyRef erased mut rec-ty) l34 0) ∷ ‵ (froom (tyInt w64) l35 0) ∷ ‵ (froom tyPtr l36 0) ∷ ‵ (froom tyPtr l37 0) ∷ ‵ (froom Row′.mir l38 0) ∷ ‵ (froom (tyInt w64) l39 0) ∷ ‵ (froom tyPtr l40 0) ∷ ‵ (froom tyPtr l41 0) ∷ ‵ (froom Row′.mir l42 0) ∷ ‵ (froom (tyRef erased mut rec-ty) l43 0) ∷ ‵ (fat fullShare T′.mir l44 0 y44) ∷ ‵ (froom (tyRef erased mut rec-ty) l45 0) ∷ ‵ (froom T′.mir l46 0) ∷ ‵ (froom (tyRef erased mut rec-ty) l47 0) ∷ ‵ (froom T′.mir l48 0) ∷ ‵ (froom (tyInt w64) l49 0) ∷ ‵ (froom tyPtr l50 0) ∷ ‵ (froom tyPtr l51 0) ∷ ‵ (froom Row′.mir l52 0) ∷ ‵ (froom (tyRef erased mut (tyInt w8)) l53 0) ∷ ‵ (froom (sliceTy (tyRef erased mut (tyInt w8))) l54 0) ∷ ‵ (froom (tyRef erased mut rec-ty) l55 0) ∷ ‵ (froom T′.mir l56 0) ∷ ‵ (froom (tyInt w64) l57 0) ∷ ‵ (froom tyPtr l58 0) ∷ ‵ (froom tyPtr l59 0) ∷ ‵ (froom Row′.mir l60 0) ∷ ‵ (froom (tyRef erased mut rec-ty) l61 0) ∷ ‵ (froom T′.mir l62 0) ∷ ‵ (froom (tyRef erased mut rec-ty) l63 0) ∷ ‵ (froom T′.mir l64 0) ∷ ‵ (froom (tyRef erased mut rec-ty) l65 0) ∷ Dies) (runs C Λ En (carrying 45 17) (anyQ (Next call)))
+        carried-sync : {y2 y12 y36 : Val} (x : Change) → Is S.the-row x (LL.val S.the-type S′.the-laws x ∷ []) → changed h x ≡ doneOf (stepOf h (stepFor call (bytesIn f) room)) → (zs : List ℕ) → zs ≡ roomFor h call room → length zs ≡ length room → Sq W (‵ (fobs γ (T.the-row .coded .code h)) ∷ ‵ (fbor κ (Body (mem T.the-row) b o γ)) ∷ ‵ (flft κ q) ∷ ‵ (flft κ-room q-room) ∷ ‵ (finally u8 γ-room zs) ∷ ‵ (froom Answer-row′.mir l0 0) ∷ ‵ (fat fullShare (tyRef (named 0) mut rec-ty) l1 0 (vptr b o)) ∷ ‵ (fat fullShare Call-row′.mir l2 0 y2) ∷ ‵ (fat fullShare Frame-row′.mir l3 0 (LL.val Frame-row.the-type Frame-row′.the-laws f)) ∷ ‵ (fat fullShare (sliceTy (tyRef (named 1) mut (tyInt w8))) l4 0 s-room) ∷ ‵ (froom out-ty l5 0) ∷ ‵ (froom (tyInt w8) l6 0) ∷ ‵ (froom Control-row′.mir l7 0) ∷ ‵ (froom (tyInt w64) l8 0) ∷ ‵ (froom Row′.mir l9 0) ∷ ‵ (froom (tyInt w8) l10 0) ∷ ‵ (froom (tyInt w8) l11 0) ∷ ‵ (fat fullShare Sync-row′.mir l12 0 y12) ∷ ‵ (fat fullShare out-ty l13 0 (LL.val S.the-type S′.the-laws x)) ∷ ‵ (froom out-ty l14 0) ∷ ‵ (froom (tyInt w8) l15 0) ∷ ‵ (froom Ruling-row′.mir l16 0) ∷ ‵ (froom (tyInt w64) l17 0) ∷ ‵ (froom Row′.mir l18 0) ∷ ‵ (froom out-ty l19 0) ∷ ‵ (froom tyBool l20 0) ∷ ‵ (froom Ruling-row′.mir l21 0) ∷ ‵ (froom (tyInt w64) l22 0) ∷ ‵ (froom Row′.mir l23 0) ∷ ‵ (froom out-ty l24 0) ∷ ‵ (froom Fault-row′.mir l25 0) ∷ ‵ (froom out-ty l26 0) ∷ ‵ (froom out-ty l27 0) ∷ ‵ (froom Answer-row′.mir l28 0) ∷ ‵ (froom T′.mir l29 0) ∷ ‵ (froom (tyRef erased mut rec-ty) l30 0) ∷ ‵ (froom (tyInt w64) l31 0) ∷ ‵ (froom tyPtr l32 0) ∷ ‵ (froom tyPtr l33 0) ∷ ‵ (froom Row′.mir l34 0) ∷ ‵ (froom (tyRef erased mut rec-ty) l35 0) ∷ ‵ (fat fullShare T′.mir l36 0 y36) ∷ ‵ (froom (tyRef erased mut rec-ty) l37 0) ∷ ‵ (froom T′.mir l38 0) ∷ ‵ (froom (tyRef erased mut rec-ty) l39 0) ∷ ‵ (froom T′.mir l40 0) ∷ ‵ (froom (tyInt w64) l41 0) ∷ ‵ (froom tyPtr l42 0) ∷ ‵ (froom tyPtr l43 0) ∷ ‵ (froom Row′.mir l44 0) ∷ ‵ (froom (tyRef erased mut (tyInt w8)) l45 0) ∷ ‵ (froom (sliceTy (tyRef erased mut (tyInt w8))) l46 0) ∷ ‵ (froom (tyRef erased mut rec-ty) l47 0) ∷ ‵ (froom T′.mir l48 0) ∷ ‵ (froom (tyInt w64) l49 0) ∷ ‵ (froom tyPtr l50 0) ∷ ‵ (froom tyPtr l51 0) ∷ ‵ (froom Row′.mir l52 0) ∷ ‵ (froom (tyRef erased mut rec-ty) l53 0) ∷ ‵ (froom T′.mir l54 0) ∷ ‵ (froom (tyRef erased mut rec-ty) l55 0) ∷ ‵ (froom T′.mir l56 0) ∷ ‵ (froom (tyRef erased mut rec-ty) l57 0) ∷ Dies) (runs C Λ En (carrying 37 13) (anyQ (Next call)))
         carried-sync x x-is e zs z l =
-            assigns ! (addr ! (from ! (hop ! (look ! 6 refl) (stop !)))) (from ! (stop !)) (init ! 50 refl (tt, tt)) $
+            assigns ! (addr ! (from ! (hop ! (look ! 6 refl) (stop !)))) (from ! (stop !)) (init ! 42 refl (tt, tt)) $
             group ! 3 $ use1 W (raw ((Carries 𝓤 H A at-mem run) .pre (to-carry x))) (asked-carry x x-is) $
-            calls-at-last ! fm (Carries 𝓤 H A at-mem run) known-carries (to-carry x) (and-then ! (load ! (from ! (stop !)) (look ! 48 refl)) (and-then ! (load ! (from ! (stop !)) (look ! 20 refl)) (no-more !))) (λ v.
+            calls-at-last ! fm (Carries 𝓤 H A at-mem run) known-carries (to-carry x) (and-then ! (load ! (from ! (stop !)) (look ! 40 refl)) (and-then ! (load ! (from ! (stop !)) (look ! 16 refl)) (no-more !))) (λ v.
             use1 W (later (some (λ (m : Answer). ((‵ (flft κ q) ⊛ ‵ ftrue) ⊛ ‵ (Answer-row.the-row .own m (v ∷ []))) ⊛ raw (ensured 𝓤 H A carries.ended (carries.clauses 𝓤 H A at-mem run) (κ, tt) (args-carry x) tt m)))) (id⊢ 𝓤 _) $ await ! tt $ pick ! (λ m.
             split ! $ move ! (1 ∷ []) $ use1 W (some (λ (ws : Lasts carries.ended (κ, tt) (args-carry x)). ‵ (lasts carries.ended (κ, tt) (args-carry x) ws) ⊛ raw (fact 𝓤 ((ws .0 ≡ changed h x .next) × (m ≡ x .answer))))) (id⊢ 𝓤 _) $ pick ! (λ ws.
             split ! $ move ! (1 ∷ []) $ heard ! ((ws .0 ≡ changed h x .next) × (m ≡ x .answer)) (λ d. fsplit ! $
             move ! (2 ∷ []) $ split ! $ move ! (1 ∷ []) $ peeks ! Answer-row.the-row (Is Answer-row.the-row) (shows 𝓤 H A Answer-row.the-row) m (v ∷ []) (λ is. drop ! $ split ! $
-            land-last ! (from ! (stop !)) (init ! 38 refl (EL.lawful Answer-row.the-type Answer-row′.the-laws 𝓤 H A W tt .typed m _ is .0)) $ rewrite ! 38 (λ (u : Val). ‵ (fat fullShare Answer-row′.mir l32 0 u)) (ap only (EL.tells Answer-row.the-type Answer-row′.the-laws m _ is)) refl $
-            exec ! C Λ En pieces.t-2 (atRet En (Post call)) $ forget ! 22 refl $ forget ! 23 refl $ forget ! 50 refl $ forget ! 51 refl $
-            keep ! (2 ∷ 0 ∷ 4 ∷ 5 ∷ 6 ∷ 7 ∷ 8 ∷ 9 ∷ 10 ∷ 11 ∷ 12 ∷ 13 ∷ 14 ∷ 15 ∷ 16 ∷ 17 ∷ 18 ∷ 19 ∷ 20 ∷ 21 ∷ 22 ∷ 23 ∷ 24 ∷ 25 ∷ 26 ∷ 27 ∷ 28 ∷ 29 ∷ 30 ∷ 31 ∷ 32 ∷ 33 ∷ 34 ∷ 35 ∷ 36 ∷ 37 ∷ 38 ∷ 39 ∷ 40 ∷ 41 ∷ 42 ∷ 43 ∷ 44 ∷ 45 ∷ 46 ∷ 47 ∷ 48 ∷ 49 ∷ 50 ∷ 51 ∷ 52 ∷ 53 ∷ 54 ∷ 55 ∷ 56 ∷ 57 ∷ 58 ∷ 59 ∷ 60 ∷ 61 ∷ 62 ∷ 63 ∷ 64 ∷ 65 ∷ 66 ∷ 67 ∷ 68 ∷ 69 ∷ 70 ∷ 71 ∷ 72 ∷ 73 ∷ 74 ∷ 75 ∷ 76 ∷ 77 ∷ 78 ∷ 79 ∷ 80 ∷ 81 ∷ 82 ∷ 83 ∷ 84 ∷ 85 ∷ 86 ∷ 87 ∷ 88 ∷ 89 ∷ 90 ∷ 91 ∷ 92 ∷ 93 ∷ 94 ∷ 95 ∷ 96 ∷ 97 ∷ 98 ∷ 99 ∷ 100 ∷ 101 ∷ 102 ∷ 103 ∷ 104 ∷ 105 ∷ 106 ∷ 107 ∷ 108 ∷ 109 ∷ 110 ∷ 111 ∷ 112 ∷ 113 ∷ 114 ∷ 115 ∷ 116 ∷ 117 ∷ 118 ∷ 119 ∷ 120 ∷ 121 ∷ 122 ∷ 123 ∷ 124 ∷ 125 ∷ 126 ∷ 127 ∷ 128 ∷ 129 ∷ 130 ∷ 131 ∷ 132 ∷ 133 ∷ 134 ∷ 135 ∷ 136 ∷ 137 ∷ []) $ answered (ws .0) m zs (d .0 ∙ ap (λ (u : Done). u .next) e, d .1 ∙ ap (λ (u : Done). u .answer) e, z) (answer-is m _ is) l)))))
+            land-last ! (from ! (stop !)) (init ! 34 refl (EL.lawful Answer-row.the-type Answer-row′.the-laws 𝓤 H A W tt .typed m _ is .0)) $ rewrite ! 34 (λ (u : Val). ‵ (fat fullShare Answer-row′.mir l28 0 u)) (ap only (EL.tells Answer-row.the-type Answer-row′.the-laws m _ is)) refl $
+            exec ! C Λ En pieces.t-2 (atRet En (Post call)) $ forget ! 18 refl $ forget ! 19 refl $ forget ! 42 refl $ forget ! 43 refl $
+            keep ! (2 ∷ 0 ∷ 4 ∷ 5 ∷ 6 ∷ 7 ∷ 8 ∷ 9 ∷ 10 ∷ 11 ∷ 12 ∷ 13 ∷ 14 ∷ 15 ∷ 16 ∷ 17 ∷ 18 ∷ 19 ∷ 20 ∷ 21 ∷ 22 ∷ 23 ∷ 24 ∷ 25 ∷ 26 ∷ 27 ∷ 28 ∷ 29 ∷ 30 ∷ 31 ∷ 32 ∷ 33 ∷ 34 ∷ 35 ∷ 36 ∷ 37 ∷ 38 ∷ 39 ∷ 40 ∷ 41 ∷ 42 ∷ 43 ∷ 44 ∷ 45 ∷ 46 ∷ 47 ∷ 48 ∷ 49 ∷ 50 ∷ 51 ∷ 52 ∷ 53 ∷ 54 ∷ 55 ∷ 56 ∷ 57 ∷ 58 ∷ 59 ∷ 60 ∷ 61 ∷ 62 ∷ 63 ∷ 64 ∷ 65 ∷ 66 ∷ 67 ∷ 68 ∷ 69 ∷ 70 ∷ 71 ∷ 72 ∷ 73 ∷ 74 ∷ 75 ∷ 76 ∷ 77 ∷ 78 ∷ 79 ∷ 80 ∷ 81 ∷ 82 ∷ 83 ∷ 84 ∷ 85 ∷ 86 ∷ 87 ∷ 88 ∷ 89 ∷ 90 ∷ 91 ∷ 92 ∷ 93 ∷ 94 ∷ 95 ∷ 96 ∷ 97 ∷ 98 ∷ 99 ∷ 100 ∷ 101 ∷ 102 ∷ 103 ∷ 104 ∷ 105 ∷ 106 ∷ 107 ∷ 108 ∷ 109 ∷ 110 ∷ 111 ∷ 112 ∷ 113 ∷ 114 ∷ 115 ∷ 116 ∷ 117 ∷ 118 ∷ 119 ∷ 120 ∷ 121 ∷ []) $ answered (ws .0) m zs (d .0 ∙ ap (λ (u : Done). u .next) e, d .1 ∙ ap (λ (u : Done). u .answer) e, z) (answer-is m _ is) l)))))
 
         -- Sync
-        on-sync : {y2 : Val} (k : SyncKind) → Is Sync-row.the-row k (EL.val Sync-row.the-type Sync-row′.the-laws k ∷ []) → sync k ≡ stepFor call (bytesIn f) room → room ≡ roomFor h call room → Sq W (‵ Rec ∷ ‵ (flft κ q) ∷ ‵ Room′ ∷ ‵ (flft κ-room q-room) ∷ ‵ (froom Answer-row′.mir l0 0) ∷ ‵ (fat fullShare (tyRef (named 0) mut rec-ty) l1 0 (vptr b o)) ∷ ‵ (fat fullShare Call-row′.mir l2 0 y2) ∷ ‵ (fat fullShare Frame-row′.mir l3 0 (LL.val Frame-row.the-type Frame-row′.the-laws f)) ∷ ‵ (fat fullShare (sliceTy (tyRef (named 1) mut (tyInt w8))) l4 0 s-room) ∷ ‵ (froom out-ty l5 0) ∷ ‵ (froom (tyInt w8) l6 0) ∷ ‵ (froom Control-row′.mir l7 0) ∷ ‵ (froom (tyInt w64) l8 0) ∷ ‵ (froom Row′.mir l9 0) ∷ ‵ (froom (tyInt w8) l10 0) ∷ ‵ (froom (tyInt w8) l11 0) ∷ ‵ (froom Control-row′.mir l12 0) ∷ ‵ (froom (tyInt w64) l13 0) ∷ ‵ (froom Row′.mir l14 0) ∷ ‵ (froom out-ty l15 0) ∷ ‵ (fat fullShare Sync-row′.mir l16 0 (EL.val Sync-row.the-type Sync-row′.the-laws k)) ∷ ‵ (froom out-ty l17 0) ∷ ‵ (froom out-ty l18 0) ∷ ‵ (froom (tyInt w8) l19 0) ∷ ‵ (froom Ruling-row′.mir l20 0) ∷ ‵ (froom (tyInt w64) l21 0) ∷ ‵ (froom Row′.mir l22 0) ∷ ‵ (froom out-ty l23 0) ∷ ‵ (froom tyBool l24 0) ∷ ‵ (froom Ruling-row′.mir l25 0) ∷ ‵ (froom (tyInt w64) l26 0) ∷ ‵ (froom Row′.mir l27 0) ∷ ‵ (froom out-ty l28 0) ∷ ‵ (froom Fault-row′.mir l29 0) ∷ ‵ (froom out-ty l30 0) ∷ ‵ (froom out-ty l31 0) ∷ ‵ (froom Answer-row′.mir l32 0) ∷ ‵ (froom T′.mir l33 0) ∷ ‵ (froom (tyRef erased mut rec-ty) l34 0) ∷ ‵ (froom (tyInt w64) l35 0) ∷ ‵ (froom tyPtr l36 0) ∷ ‵ (froom tyPtr l37 0) ∷ ‵ (froom Row′.mir l38 0) ∷ ‵ (froom (tyInt w64) l39 0) ∷ ‵ (froom tyPtr l40 0) ∷ ‵ (froom tyPtr l41 0) ∷ ‵ (froom Row′.mir l42 0) ∷ ‵ (froom (tyRef erased mut rec-ty) l43 0) ∷ ‵ (froom T′.mir l44 0) ∷ ‵ (froom (tyRef erased mut rec-ty) l45 0) ∷ ‵ (froom T′.mir l46 0) ∷ ‵ (froom (tyRef erased mut rec-ty) l47 0) ∷ ‵ (froom T′.mir l48 0) ∷ ‵ (froom (tyInt w64) l49 0) ∷ ‵ (froom tyPtr l50 0) ∷ ‵ (froom tyPtr l51 0) ∷ ‵ (froom Row′.mir l52 0) ∷ ‵ (froom (tyRef erased mut (tyInt w8)) l53 0) ∷ ‵ (froom (sliceTy (tyRef erased mut (tyInt w8))) l54 0) ∷ ‵ (froom (tyRef erased mut rec-ty) l55 0) ∷ ‵ (froom T′.mir l56 0) ∷ ‵ (froom (tyInt w64) l57 0) ∷ ‵ (froom tyPtr l58 0) ∷ ‵ (froom tyPtr l59 0) ∷ ‵ (froom Row′.mir l60 0) ∷ ‵ (froom (tyRef erased mut rec-ty) l61 0) ∷ ‵ (froom T′.mir l62 0) ∷ ‵ (froom (tyRef erased mut rec-ty) l63 0) ∷ ‵ (froom T′.mir l64 0) ∷ ‵ (froom (tyRef erased mut rec-ty) l65 0) ∷ Dies) (runs C Λ En code-sync (anyQ (Next call)))
+        on-sync : {y2 : Val} (k : SyncKind) → Is Sync-row.the-row k (EL.val Sync-row.the-type Sync-row′.the-laws k ∷ []) → sync k ≡ stepFor call (bytesIn f) room → room ≡ roomFor h call room → Sq W (‵ Rec ∷ ‵ (flft κ q) ∷ ‵ Room′ ∷ ‵ (flft κ-room q-room) ∷ ‵ (froom Answer-row′.mir l0 0) ∷ ‵ (fat fullShare (tyRef (named 0) mut rec-ty) l1 0 (vptr b o)) ∷ ‵ (fat fullShare Call-row′.mir l2 0 y2) ∷ ‵ (fat fullShare Frame-row′.mir l3 0 (LL.val Frame-row.the-type Frame-row′.the-laws f)) ∷ ‵ (fat fullShare (sliceTy (tyRef (named 1) mut (tyInt w8))) l4 0 s-room) ∷ ‵ (froom out-ty l5 0) ∷ ‵ (froom (tyInt w8) l6 0) ∷ ‵ (froom Control-row′.mir l7 0) ∷ ‵ (froom (tyInt w64) l8 0) ∷ ‵ (froom Row′.mir l9 0) ∷ ‵ (froom (tyInt w8) l10 0) ∷ ‵ (froom (tyInt w8) l11 0) ∷ ‵ (fat fullShare Sync-row′.mir l12 0 (EL.val Sync-row.the-type Sync-row′.the-laws k)) ∷ ‵ (froom out-ty l13 0) ∷ ‵ (froom out-ty l14 0) ∷ ‵ (froom (tyInt w8) l15 0) ∷ ‵ (froom Ruling-row′.mir l16 0) ∷ ‵ (froom (tyInt w64) l17 0) ∷ ‵ (froom Row′.mir l18 0) ∷ ‵ (froom out-ty l19 0) ∷ ‵ (froom tyBool l20 0) ∷ ‵ (froom Ruling-row′.mir l21 0) ∷ ‵ (froom (tyInt w64) l22 0) ∷ ‵ (froom Row′.mir l23 0) ∷ ‵ (froom out-ty l24 0) ∷ ‵ (froom Fault-row′.mir l25 0) ∷ ‵ (froom out-ty l26 0) ∷ ‵ (froom out-ty l27 0) ∷ ‵ (froom Answer-row′.mir l28 0) ∷ ‵ (froom T′.mir l29 0) ∷ ‵ (froom (tyRef erased mut rec-ty) l30 0) ∷ ‵ (froom (tyInt w64) l31 0) ∷ ‵ (froom tyPtr l32 0) ∷ ‵ (froom tyPtr l33 0) ∷ ‵ (froom Row′.mir l34 0) ∷ ‵ (froom (tyRef erased mut rec-ty) l35 0) ∷ ‵ (froom T′.mir l36 0) ∷ ‵ (froom (tyRef erased mut rec-ty) l37 0) ∷ ‵ (froom T′.mir l38 0) ∷ ‵ (froom (tyRef erased mut rec-ty) l39 0) ∷ ‵ (froom T′.mir l40 0) ∷ ‵ (froom (tyInt w64) l41 0) ∷ ‵ (froom tyPtr l42 0) ∷ ‵ (froom tyPtr l43 0) ∷ ‵ (froom Row′.mir l44 0) ∷ ‵ (froom (tyRef erased mut (tyInt w8)) l45 0) ∷ ‵ (froom (sliceTy (tyRef erased mut (tyInt w8))) l46 0) ∷ ‵ (froom (tyRef erased mut rec-ty) l47 0) ∷ ‵ (froom T′.mir l48 0) ∷ ‵ (froom (tyInt w64) l49 0) ∷ ‵ (froom tyPtr l50 0) ∷ ‵ (froom tyPtr l51 0) ∷ ‵ (froom Row′.mir l52 0) ∷ ‵ (froom (tyRef erased mut rec-ty) l53 0) ∷ ‵ (froom T′.mir l54 0) ∷ ‵ (froom (tyRef erased mut rec-ty) l55 0) ∷ ‵ (froom T′.mir l56 0) ∷ ‵ (froom (tyRef erased mut rec-ty) l57 0) ∷ Dies) (runs C Λ En code-sync (anyQ (Next call)))
         on-sync k k-is s z =
             fsplit3 ! $ drop ! $
             opens ! tt T.the-row {h = h} b o (λ vs. spelt ! T.the-row (Is T.the-row) (shows 𝓤 H A T.the-row) (LL.vals T.the-type T′.the-laws) (LL.tells T.the-type T′.the-laws) fullShare h vs b o $
             move ! (1 ∷ []) $ peeks ! T.the-row (Is T.the-row) (shows 𝓤 H A T.the-row) h (mach h ∷ []) (λ was.
-            assigns ! (of-opd ! (load ! (from ! (hop ! (look ! 8 refl) (stop !))) (look-raw ! 1 refl))) (from ! (stop !)) (init ! 51 refl (LL.lawful T.the-type T′.the-laws 𝓤 H A W .typed h _ was .0)) $
+            assigns ! (of-opd ! (load ! (from ! (hop ! (look ! 8 refl) (stop !))) (look-raw ! 1 refl))) (from ! (stop !)) (init ! 43 refl (LL.lawful T.the-type T′.the-laws 𝓤 H A W .typed h _ was .0)) $
             move ! (1 ∷ 0 ∷ 2 ∷ 3 ∷ 4 ∷ []) $ closes ! tt T.the-row h (mach h ∷ []) b o $
             move ! (3 ∷ []) $ fsplit ! $ move ! (1 ∷ []) $ fsplit ! $
             use1 W (‵ (fres γ-room (codedHoleys u8 .code (heres u8 room)))) (W .names .obs-res γ-room (codedHoleys u8 .code (heres u8 room))) $ use1 W (‵ (finally u8 γ-room room)) (res-finally 𝓤 H A W (named 1) κ-room u8 γ-room room) $
             use0 W (raw ((Syncs 𝓤 H A at-mem run) .pre (to-sync k))) (asked-sync k k-is was) $
-            calls-at ! fm (Syncs 𝓤 H A at-mem run) known-syncs (to-sync k) (and-then ! (load ! (from ! (stop !)) (look ! 52 refl)) (and-then ! (load ! (from ! (stop !)) (look ! 24 refl)) (no-more !))) (λ v.
+            calls-at ! fm (Syncs 𝓤 H A at-mem run) known-syncs (to-sync k) (and-then ! (load ! (from ! (stop !)) (look ! 44 refl)) (and-then ! (load ! (from ! (stop !)) (look ! 20 refl)) (no-more !))) (λ v.
             use1 W (later (some (λ (x : Change). (‵ ftrue ⊛ ‵ (S.the-row .own x (v ∷ []))) ⊛ raw (ensured 𝓤 H A syncs.ended (syncs.clauses 𝓤 H A at-mem run) tt (args-sync k) tt x)))) (id⊢ 𝓤 _) $ await ! tt $ pick ! (λ x.
             split ! $ move ! (1 ∷ []) $ use1 W (some (λ (ws : Lasts syncs.ended tt (args-sync k)). ‵ (lasts syncs.ended tt (args-sync k) ws) ⊛ raw (fact 𝓤 (changed h x ≡ doneOf (stepOf h (sync k)))))) (id⊢ 𝓤 _) $ pick ! (λ ws.
             split ! $ move ! (1 ∷ []) $ heard ! (changed h x ≡ doneOf (stepOf h (sync k))) (λ e. drop ! $ split ! $ drop ! $
             peeks ! S.the-row (Is S.the-row) (shows 𝓤 H A S.the-row) x (v ∷ []) (λ is. drop ! $
-            land ! (from ! (stop !)) (init ! 24 refl (LL.lawful S.the-type S′.the-laws 𝓤 H A W .typed x _ is .0)) $ rewrite ! 24 (λ (u : Val). ‵ (fat fullShare out-ty l17 0 u)) (ap only (LL.tells S.the-type S′.the-laws x _ is)) refl $
-            keep ! (3 ∷ 4 ∷ 5 ∷ 6 ∷ 0 ∷ 7 ∷ 8 ∷ 9 ∷ 10 ∷ 11 ∷ 12 ∷ 13 ∷ 14 ∷ 15 ∷ 16 ∷ 17 ∷ 18 ∷ 19 ∷ 20 ∷ 21 ∷ 22 ∷ 23 ∷ 24 ∷ 25 ∷ 26 ∷ 27 ∷ 28 ∷ 29 ∷ 30 ∷ 31 ∷ 32 ∷ 33 ∷ 34 ∷ 35 ∷ 36 ∷ 37 ∷ 38 ∷ 39 ∷ 40 ∷ 41 ∷ 42 ∷ 43 ∷ 44 ∷ 45 ∷ 46 ∷ 47 ∷ 48 ∷ 49 ∷ 50 ∷ 51 ∷ 52 ∷ 53 ∷ 54 ∷ 55 ∷ 56 ∷ 57 ∷ 58 ∷ 59 ∷ 60 ∷ 61 ∷ 62 ∷ 63 ∷ 64 ∷ 65 ∷ 66 ∷ 67 ∷ 68 ∷ 69 ∷ 70 ∷ 71 ∷ 72 ∷ 73 ∷ 74 ∷ 75 ∷ 76 ∷ 77 ∷ 78 ∷ 79 ∷ 80 ∷ 81 ∷ 82 ∷ 83 ∷ 84 ∷ 85 ∷ 86 ∷ 87 ∷ 88 ∷ 89 ∷ 90 ∷ 91 ∷ 92 ∷ 93 ∷ 94 ∷ 95 ∷ 96 ∷ 97 ∷ 98 ∷ 99 ∷ 100 ∷ 101 ∷ 102 ∷ 103 ∷ 104 ∷ 105 ∷ 106 ∷ 107 ∷ 108 ∷ 109 ∷ 110 ∷ 111 ∷ 112 ∷ 113 ∷ 114 ∷ 115 ∷ 116 ∷ 117 ∷ 118 ∷ 119 ∷ 120 ∷ 121 ∷ 122 ∷ 123 ∷ 124 ∷ 125 ∷ 126 ∷ 127 ∷ 128 ∷ 129 ∷ 130 ∷ 131 ∷ 132 ∷ 133 ∷ 134 ∷ 135 ∷ 136 ∷ 137 ∷ 138 ∷ []) $ carried-sync x (change-is x _ is) (e ∙ ap (λ (s : Step). doneOf (stepOf h s)) s) room z refl)))))))
+            land ! (from ! (stop !)) (init ! 20 refl (LL.lawful S.the-type S′.the-laws 𝓤 H A W .typed x _ is .0)) $ rewrite ! 20 (λ (u : Val). ‵ (fat fullShare out-ty l13 0 u)) (ap only (LL.tells S.the-type S′.the-laws x _ is)) refl $
+            keep ! (3 ∷ 4 ∷ 5 ∷ 6 ∷ 0 ∷ 7 ∷ 8 ∷ 9 ∷ 10 ∷ 11 ∷ 12 ∷ 13 ∷ 14 ∷ 15 ∷ 16 ∷ 17 ∷ 18 ∷ 19 ∷ 20 ∷ 21 ∷ 22 ∷ 23 ∷ 24 ∷ 25 ∷ 26 ∷ 27 ∷ 28 ∷ 29 ∷ 30 ∷ 31 ∷ 32 ∷ 33 ∷ 34 ∷ 35 ∷ 36 ∷ 37 ∷ 38 ∷ 39 ∷ 40 ∷ 41 ∷ 42 ∷ 43 ∷ 44 ∷ 45 ∷ 46 ∷ 47 ∷ 48 ∷ 49 ∷ 50 ∷ 51 ∷ 52 ∷ 53 ∷ 54 ∷ 55 ∷ 56 ∷ 57 ∷ 58 ∷ 59 ∷ 60 ∷ 61 ∷ 62 ∷ 63 ∷ 64 ∷ 65 ∷ 66 ∷ 67 ∷ 68 ∷ 69 ∷ 70 ∷ 71 ∷ 72 ∷ 73 ∷ 74 ∷ 75 ∷ 76 ∷ 77 ∷ 78 ∷ 79 ∷ 80 ∷ 81 ∷ 82 ∷ 83 ∷ 84 ∷ 85 ∷ 86 ∷ 87 ∷ 88 ∷ 89 ∷ 90 ∷ 91 ∷ 92 ∷ 93 ∷ 94 ∷ 95 ∷ 96 ∷ 97 ∷ 98 ∷ 99 ∷ 100 ∷ 101 ∷ 102 ∷ 103 ∷ 104 ∷ 105 ∷ 106 ∷ 107 ∷ 108 ∷ 109 ∷ 110 ∷ 111 ∷ 112 ∷ 113 ∷ 114 ∷ 115 ∷ 116 ∷ 117 ∷ 118 ∷ 119 ∷ 120 ∷ 121 ∷ 122 ∷ []) $ carried-sync x (change-is x _ is) (e ∙ ap (λ (s : Step). doneOf (stepOf h s)) s) room z refl)))))))
 
         -- what `SyncDue` changes is carried out
-        carried-due : {y2 y46 : Val} (x : Change) → Is S.the-row x (LL.val S.the-type S′.the-laws x ∷ []) → changed h x ≡ doneOf (stepOf h (stepFor call (bytesIn f) room)) → (zs : List ℕ) → zs ≡ roomFor h call room → length zs ≡ length room → Sq W (‵ (fobs γ (T.the-row .coded .code h)) ∷ ‵ (fbor κ (Body (mem T.the-row) b o γ)) ∷ ‵ (flft κ q) ∷ ‵ (flft κ-room q-room) ∷ ‵ (finally u8 γ-room zs) ∷ ‵ (froom Answer-row′.mir l0 0) ∷ ‵ (fat fullShare (tyRef (named 0) mut rec-ty) l1 0 (vptr b o)) ∷ ‵ (fat fullShare Call-row′.mir l2 0 y2) ∷ ‵ (fat fullShare Frame-row′.mir l3 0 (LL.val Frame-row.the-type Frame-row′.the-laws f)) ∷ ‵ (fat fullShare (sliceTy (tyRef (named 1) mut (tyInt w8))) l4 0 s-room) ∷ ‵ (froom out-ty l5 0) ∷ ‵ (froom (tyInt w8) l6 0) ∷ ‵ (froom Control-row′.mir l7 0) ∷ ‵ (froom (tyInt w64) l8 0) ∷ ‵ (froom Row′.mir l9 0) ∷ ‵ (froom (tyInt w8) l10 0) ∷ ‵ (froom (tyInt w8) l11 0) ∷ ‵ (froom Control-row′.mir l12 0) ∷ ‵ (froom (tyInt w64) l13 0) ∷ ‵ (froom Row′.mir l14 0) ∷ ‵ (froom out-ty l15 0) ∷ ‵ (froom Sync-row′.mir l16 0) ∷ ‵ (froom out-ty l17 0) ∷ ‵ (fat fullShare out-ty l18 0 (LL.val S.the-type S′.the-laws x)) ∷ ‵ (froom (tyInt w8) l19 0) ∷ ‵ (froom Ruling-row′.mir l20 0) ∷ ‵ (froom (tyInt w64) l21 0) ∷ ‵ (froom Row′.mir l22 0) ∷ ‵ (froom out-ty l23 0) ∷ ‵ (froom tyBool l24 0) ∷ ‵ (froom Ruling-row′.mir l25 0) ∷ ‵ (froom (tyInt w64) l26 0) ∷ ‵ (froom Row′.mir l27 0) ∷ ‵ (froom out-ty l28 0) ∷ ‵ (froom Fault-row′.mir l29 0) ∷ ‵ (froom out-ty l30 0) ∷ ‵ (froom out-ty l31 0) ∷ ‵ (froom Answer-row′.mir l32 0) ∷ ‵ (froom T′.mir l33 0) ∷ ‵ (froom (tyRef erased mut rec-ty) l34 0) ∷ ‵ (froom (tyInt w64) l35 0) ∷ ‵ (froom tyPtr l36 0) ∷ ‵ (froom tyPtr l37 0) ∷ ‵ (froom Row′.mir l38 0) ∷ ‵ (froom (tyInt w64) l39 0) ∷ ‵ (froom tyPtr l40 0) ∷ ‵ (froom tyPtr l41 0) ∷ ‵ (froom Row′.mir l42 0) ∷ ‵ (froom (tyRef erased mut rec-ty) l43 0) ∷ ‵ (froom T′.mir l44 0) ∷ ‵ (froom (tyRef erased mut rec-ty) l45 0) ∷ ‵ (fat fullShare T′.mir l46 0 y46) ∷ ‵ (froom (tyRef erased mut rec-ty) l47 0) ∷ ‵ (froom T′.mir l48 0) ∷ ‵ (froom (tyInt w64) l49 0) ∷ ‵ (froom tyPtr l50 0) ∷ ‵ (froom tyPtr l51 0) ∷ ‵ (froom Row′.mir l52 0) ∷ ‵ (froom (tyRef erased mut (tyInt w8)) l53 0) ∷ ‵ (froom (sliceTy (tyRef erased mut (tyInt w8))) l54 0) ∷ ‵ (froom (tyRef erased mut rec-ty) l55 0) ∷ ‵ (froom T′.mir l56 0) ∷ ‵ (froom (tyInt w64) l57 0) ∷ ‵ (froom tyPtr l58 0) ∷ ‵ (froom tyPtr l59 0) ∷ ‵ (froom Row′.mir l60 0) ∷ ‵ (froom (tyRef erased mut rec-ty) l61 0) ∷ ‵ (froom T′.mir l62 0) ∷ ‵ (froom (tyRef erased mut rec-ty) l63 0) ∷ ‵ (froom T′.mir l64 0) ∷ ‵ (froom (tyRef erased mut rec-ty) l65 0) ∷ Dies) (runs C Λ En (carrying 47 18) (anyQ (Next call)))
+        carried-due : {y2 y38 : Val} (x : Change) → Is S.the-row x (LL.val S.the-type S′.the-laws x ∷ []) → changed h x ≡ doneOf (stepOf h (stepFor call (bytesIn f) room)) → (zs : List ℕ) → zs ≡ roomFor h call room → length zs ≡ length room → Sq W (‵ (fobs γ (T.the-row .coded .code h)) ∷ ‵ (fbor κ (Body (mem T.the-row) b o γ)) ∷ ‵ (flft κ q) ∷ ‵ (flft κ-room q-room) ∷ ‵ (finally u8 γ-room zs) ∷ ‵ (froom Answer-row′.mir l0 0) ∷ ‵ (fat fullShare (tyRef (named 0) mut rec-ty) l1 0 (vptr b o)) ∷ ‵ (fat fullShare Call-row′.mir l2 0 y2) ∷ ‵ (fat fullShare Frame-row′.mir l3 0 (LL.val Frame-row.the-type Frame-row′.the-laws f)) ∷ ‵ (fat fullShare (sliceTy (tyRef (named 1) mut (tyInt w8))) l4 0 s-room) ∷ ‵ (froom out-ty l5 0) ∷ ‵ (froom (tyInt w8) l6 0) ∷ ‵ (froom Control-row′.mir l7 0) ∷ ‵ (froom (tyInt w64) l8 0) ∷ ‵ (froom Row′.mir l9 0) ∷ ‵ (froom (tyInt w8) l10 0) ∷ ‵ (froom (tyInt w8) l11 0) ∷ ‵ (froom Sync-row′.mir l12 0) ∷ ‵ (froom out-ty l13 0) ∷ ‵ (fat fullShare out-ty l14 0 (LL.val S.the-type S′.the-laws x)) ∷ ‵ (froom (tyInt w8) l15 0) ∷ ‵ (froom Ruling-row′.mir l16 0) ∷ ‵ (froom (tyInt w64) l17 0) ∷ ‵ (froom Row′.mir l18 0) ∷ ‵ (froom out-ty l19 0) ∷ ‵ (froom tyBool l20 0) ∷ ‵ (froom Ruling-row′.mir l21 0) ∷ ‵ (froom (tyInt w64) l22 0) ∷ ‵ (froom Row′.mir l23 0) ∷ ‵ (froom out-ty l24 0) ∷ ‵ (froom Fault-row′.mir l25 0) ∷ ‵ (froom out-ty l26 0) ∷ ‵ (froom out-ty l27 0) ∷ ‵ (froom Answer-row′.mir l28 0) ∷ ‵ (froom T′.mir l29 0) ∷ ‵ (froom (tyRef erased mut rec-ty) l30 0) ∷ ‵ (froom (tyInt w64) l31 0) ∷ ‵ (froom tyPtr l32 0) ∷ ‵ (froom tyPtr l33 0) ∷ ‵ (froom Row′.mir l34 0) ∷ ‵ (froom (tyRef erased mut rec-ty) l35 0) ∷ ‵ (froom T′.mir l36 0) ∷ ‵ (froom (tyRef erased mut rec-ty) l37 0) ∷ ‵ (fat fullShare T′.mir l38 0 y38) ∷ ‵ (froom (tyRef erased mut rec-ty) l39 0) ∷ ‵ (froom T′.mir l40 0) ∷ ‵ (froom (tyInt w64) l41 0) ∷ ‵ (froom tyPtr l42 0) ∷ ‵ (froom tyPtr l43 0) ∷ ‵ (froom Row′.mir l44 0) ∷ ‵ (froom (tyRef erased mut (tyInt w8)) l45 0) ∷ ‵ (froom (sliceTy (tyRef erased mut (tyInt w8))) l46 0) ∷ ‵ (froom (tyRef erased mut rec-ty) l47 0) ∷ ‵ (froom T′.mir l48 0) ∷ ‵ (froom (tyInt w64) l49 0) ∷ ‵ (froom tyPtr l50 0) ∷ ‵ (froom tyPtr l51 0) ∷ ‵ (froom Row′.mir l52 0) ∷ ‵ (froom (tyRef erased mut rec-ty) l53 0) ∷ ‵ (froom T′.mir l54 0) ∷ ‵ (froom (tyRef erased mut rec-ty) l55 0) ∷ ‵ (froom T′.mir l56 0) ∷ ‵ (froom (tyRef erased mut rec-ty) l57 0) ∷ Dies) (runs C Λ En (carrying 39 14) (anyQ (Next call)))
         carried-due x x-is e zs z l =
-            assigns ! (addr ! (from ! (hop ! (look ! 6 refl) (stop !)))) (from ! (stop !)) (init ! 52 refl (tt, tt)) $
+            assigns ! (addr ! (from ! (hop ! (look ! 6 refl) (stop !)))) (from ! (stop !)) (init ! 44 refl (tt, tt)) $
             group ! 3 $ use1 W (raw ((Carries 𝓤 H A at-mem run) .pre (to-carry x))) (asked-carry x x-is) $
-            calls-at-last ! fm (Carries 𝓤 H A at-mem run) known-carries (to-carry x) (and-then ! (load ! (from ! (stop !)) (look ! 50 refl)) (and-then ! (load ! (from ! (stop !)) (look ! 21 refl)) (no-more !))) (λ v.
+            calls-at-last ! fm (Carries 𝓤 H A at-mem run) known-carries (to-carry x) (and-then ! (load ! (from ! (stop !)) (look ! 42 refl)) (and-then ! (load ! (from ! (stop !)) (look ! 17 refl)) (no-more !))) (λ v.
             use1 W (later (some (λ (m : Answer). ((‵ (flft κ q) ⊛ ‵ ftrue) ⊛ ‵ (Answer-row.the-row .own m (v ∷ []))) ⊛ raw (ensured 𝓤 H A carries.ended (carries.clauses 𝓤 H A at-mem run) (κ, tt) (args-carry x) tt m)))) (id⊢ 𝓤 _) $ await ! tt $ pick ! (λ m.
             split ! $ move ! (1 ∷ []) $ use1 W (some (λ (ws : Lasts carries.ended (κ, tt) (args-carry x)). ‵ (lasts carries.ended (κ, tt) (args-carry x) ws) ⊛ raw (fact 𝓤 ((ws .0 ≡ changed h x .next) × (m ≡ x .answer))))) (id⊢ 𝓤 _) $ pick ! (λ ws.
             split ! $ move ! (1 ∷ []) $ heard ! ((ws .0 ≡ changed h x .next) × (m ≡ x .answer)) (λ d. fsplit ! $
             move ! (2 ∷ []) $ split ! $ move ! (1 ∷ []) $ peeks ! Answer-row.the-row (Is Answer-row.the-row) (shows 𝓤 H A Answer-row.the-row) m (v ∷ []) (λ is. drop ! $ split ! $
-            land-last ! (from ! (stop !)) (init ! 38 refl (EL.lawful Answer-row.the-type Answer-row′.the-laws 𝓤 H A W tt .typed m _ is .0)) $ rewrite ! 38 (λ (u : Val). ‵ (fat fullShare Answer-row′.mir l32 0 u)) (ap only (EL.tells Answer-row.the-type Answer-row′.the-laws m _ is)) refl $
-            exec ! C Λ En pieces.t-2 (atRet En (Post call)) $ forget ! 24 refl $ forget ! 52 refl $ forget ! 53 refl $
-            keep ! (2 ∷ 0 ∷ 4 ∷ 5 ∷ 6 ∷ 7 ∷ 8 ∷ 9 ∷ 10 ∷ 11 ∷ 12 ∷ 13 ∷ 14 ∷ 15 ∷ 16 ∷ 17 ∷ 18 ∷ 19 ∷ 20 ∷ 21 ∷ 22 ∷ 23 ∷ 24 ∷ 25 ∷ 26 ∷ 27 ∷ 28 ∷ 29 ∷ 30 ∷ 31 ∷ 32 ∷ 33 ∷ 34 ∷ 35 ∷ 36 ∷ 37 ∷ 38 ∷ 39 ∷ 40 ∷ 41 ∷ 42 ∷ 43 ∷ 44 ∷ 45 ∷ 46 ∷ 47 ∷ 48 ∷ 49 ∷ 50 ∷ 51 ∷ 52 ∷ 53 ∷ 54 ∷ 55 ∷ 56 ∷ 57 ∷ 58 ∷ 59 ∷ 60 ∷ 61 ∷ 62 ∷ 63 ∷ 64 ∷ 65 ∷ 66 ∷ 67 ∷ 68 ∷ 69 ∷ 70 ∷ 71 ∷ 72 ∷ 73 ∷ 74 ∷ 75 ∷ 76 ∷ 77 ∷ 78 ∷ 79 ∷ 80 ∷ 81 ∷ 82 ∷ 83 ∷ 84 ∷ 85 ∷ 86 ∷ 87 ∷ 88 ∷ 89 ∷ 90 ∷ 91 ∷ 92 ∷ 93 ∷ 94 ∷ 95 ∷ 96 ∷ 97 ∷ 98 ∷ 99 ∷ 100 ∷ 101 ∷ 102 ∷ 103 ∷ 104 ∷ 105 ∷ 106 ∷ 107 ∷ 108 ∷ 109 ∷ 110 ∷ 111 ∷ 112 ∷ 113 ∷ 114 ∷ 115 ∷ 116 ∷ 117 ∷ 118 ∷ 119 ∷ 120 ∷ 121 ∷ 122 ∷ 123 ∷ 124 ∷ 125 ∷ 126 ∷ 127 ∷ 128 ∷ 129 ∷ 130 ∷ 131 ∷ 132 ∷ 133 ∷ 134 ∷ 135 ∷ 136 ∷ 137 ∷ []) $ answered (ws .0) m zs (d .0 ∙ ap (λ (u : Done). u .next) e, d .1 ∙ ap (λ (u : Done). u .answer) e, z) (answer-is m _ is) l)))))
+            land-last ! (from ! (stop !)) (init ! 34 refl (EL.lawful Answer-row.the-type Answer-row′.the-laws 𝓤 H A W tt .typed m _ is .0)) $ rewrite ! 34 (λ (u : Val). ‵ (fat fullShare Answer-row′.mir l28 0 u)) (ap only (EL.tells Answer-row.the-type Answer-row′.the-laws m _ is)) refl $
+            exec ! C Λ En pieces.t-2 (atRet En (Post call)) $ forget ! 20 refl $ forget ! 44 refl $ forget ! 45 refl $
+            keep ! (2 ∷ 0 ∷ 4 ∷ 5 ∷ 6 ∷ 7 ∷ 8 ∷ 9 ∷ 10 ∷ 11 ∷ 12 ∷ 13 ∷ 14 ∷ 15 ∷ 16 ∷ 17 ∷ 18 ∷ 19 ∷ 20 ∷ 21 ∷ 22 ∷ 23 ∷ 24 ∷ 25 ∷ 26 ∷ 27 ∷ 28 ∷ 29 ∷ 30 ∷ 31 ∷ 32 ∷ 33 ∷ 34 ∷ 35 ∷ 36 ∷ 37 ∷ 38 ∷ 39 ∷ 40 ∷ 41 ∷ 42 ∷ 43 ∷ 44 ∷ 45 ∷ 46 ∷ 47 ∷ 48 ∷ 49 ∷ 50 ∷ 51 ∷ 52 ∷ 53 ∷ 54 ∷ 55 ∷ 56 ∷ 57 ∷ 58 ∷ 59 ∷ 60 ∷ 61 ∷ 62 ∷ 63 ∷ 64 ∷ 65 ∷ 66 ∷ 67 ∷ 68 ∷ 69 ∷ 70 ∷ 71 ∷ 72 ∷ 73 ∷ 74 ∷ 75 ∷ 76 ∷ 77 ∷ 78 ∷ 79 ∷ 80 ∷ 81 ∷ 82 ∷ 83 ∷ 84 ∷ 85 ∷ 86 ∷ 87 ∷ 88 ∷ 89 ∷ 90 ∷ 91 ∷ 92 ∷ 93 ∷ 94 ∷ 95 ∷ 96 ∷ 97 ∷ 98 ∷ 99 ∷ 100 ∷ 101 ∷ 102 ∷ 103 ∷ 104 ∷ 105 ∷ 106 ∷ 107 ∷ 108 ∷ 109 ∷ 110 ∷ 111 ∷ 112 ∷ 113 ∷ 114 ∷ 115 ∷ 116 ∷ 117 ∷ 118 ∷ 119 ∷ 120 ∷ 121 ∷ []) $ answered (ws .0) m zs (d .0 ∙ ap (λ (u : Done). u .next) e, d .1 ∙ ap (λ (u : Done). u .answer) e, z) (answer-is m _ is) l)))))
 
         -- SyncDue
-        on-due : {y2 : Val} → syncDue ≡ stepFor call (bytesIn f) room → room ≡ roomFor h call room → Sq W (‵ Rec ∷ ‵ (flft κ q) ∷ ‵ Room′ ∷ ‵ (flft κ-room q-room) ∷ ‵ (froom Answer-row′.mir l0 0) ∷ ‵ (fat fullShare (tyRef (named 0) mut rec-ty) l1 0 (vptr b o)) ∷ ‵ (fat fullShare Call-row′.mir l2 0 y2) ∷ ‵ (fat fullShare Frame-row′.mir l3 0 (LL.val Frame-row.the-type Frame-row′.the-laws f)) ∷ ‵ (fat fullShare (sliceTy (tyRef (named 1) mut (tyInt w8))) l4 0 s-room) ∷ ‵ (froom out-ty l5 0) ∷ ‵ (froom (tyInt w8) l6 0) ∷ ‵ (froom Control-row′.mir l7 0) ∷ ‵ (froom (tyInt w64) l8 0) ∷ ‵ (froom Row′.mir l9 0) ∷ ‵ (froom (tyInt w8) l10 0) ∷ ‵ (froom (tyInt w8) l11 0) ∷ ‵ (froom Control-row′.mir l12 0) ∷ ‵ (froom (tyInt w64) l13 0) ∷ ‵ (froom Row′.mir l14 0) ∷ ‵ (froom out-ty l15 0) ∷ ‵ (froom Sync-row′.mir l16 0) ∷ ‵ (froom out-ty l17 0) ∷ ‵ (froom out-ty l18 0) ∷ ‵ (froom (tyInt w8) l19 0) ∷ ‵ (froom Ruling-row′.mir l20 0) ∷ ‵ (froom (tyInt w64) l21 0) ∷ ‵ (froom Row′.mir l22 0) ∷ ‵ (froom out-ty l23 0) ∷ ‵ (froom tyBool l24 0) ∷ ‵ (froom Ruling-row′.mir l25 0) ∷ ‵ (froom (tyInt w64) l26 0) ∷ ‵ (froom Row′.mir l27 0) ∷ ‵ (froom out-ty l28 0) ∷ ‵ (froom Fault-row′.mir l29 0) ∷ ‵ (froom out-ty l30 0) ∷ ‵ (froom out-ty l31 0) ∷ ‵ (froom Answer-row′.mir l32 0) ∷ ‵ (froom T′.mir l33 0) ∷ ‵ (froom (tyRef erased mut rec-ty) l34 0) ∷ ‵ (froom (tyInt w64) l35 0) ∷ ‵ (froom tyPtr l36 0) ∷ ‵ (froom tyPtr l37 0) ∷ ‵ (froom Row′.mir l38 0) ∷ ‵ (froom (tyInt w64) l39 0) ∷ ‵ (froom tyPtr l40 0) ∷ ‵ (froom tyPtr l41 0) ∷ ‵ (froom Row′.mir l42 0) ∷ ‵ (froom (tyRef erased mut rec-ty) l43 0) ∷ ‵ (froom T′.mir l44 0) ∷ ‵ (froom (tyRef erased mut rec-ty) l45 0) ∷ ‵ (froom T′.mir l46 0) ∷ ‵ (froom (tyRef erased mut rec-ty) l47 0) ∷ ‵ (froom T′.mir l48 0) ∷ ‵ (froom (tyInt w64) l49 0) ∷ ‵ (froom tyPtr l50 0) ∷ ‵ (froom tyPtr l51 0) ∷ ‵ (froom Row′.mir l52 0) ∷ ‵ (froom (tyRef erased mut (tyInt w8)) l53 0) ∷ ‵ (froom (sliceTy (tyRef erased mut (tyInt w8))) l54 0) ∷ ‵ (froom (tyRef erased mut rec-ty) l55 0) ∷ ‵ (froom T′.mir l56 0) ∷ ‵ (froom (tyInt w64) l57 0) ∷ ‵ (froom tyPtr l58 0) ∷ ‵ (froom tyPtr l59 0) ∷ ‵ (froom Row′.mir l60 0) ∷ ‵ (froom (tyRef erased mut rec-ty) l61 0) ∷ ‵ (froom T′.mir l62 0) ∷ ‵ (froom (tyRef erased mut rec-ty) l63 0) ∷ ‵ (froom T′.mir l64 0) ∷ ‵ (froom (tyRef erased mut rec-ty) l65 0) ∷ Dies) (runs C Λ En code-due (anyQ (Next call)))
+        on-due : {y2 : Val} → syncDue ≡ stepFor call (bytesIn f) room → room ≡ roomFor h call room → Sq W (‵ Rec ∷ ‵ (flft κ q) ∷ ‵ Room′ ∷ ‵ (flft κ-room q-room) ∷ ‵ (froom Answer-row′.mir l0 0) ∷ ‵ (fat fullShare (tyRef (named 0) mut rec-ty) l1 0 (vptr b o)) ∷ ‵ (fat fullShare Call-row′.mir l2 0 y2) ∷ ‵ (fat fullShare Frame-row′.mir l3 0 (LL.val Frame-row.the-type Frame-row′.the-laws f)) ∷ ‵ (fat fullShare (sliceTy (tyRef (named 1) mut (tyInt w8))) l4 0 s-room) ∷ ‵ (froom out-ty l5 0) ∷ ‵ (froom (tyInt w8) l6 0) ∷ ‵ (froom Control-row′.mir l7 0) ∷ ‵ (froom (tyInt w64) l8 0) ∷ ‵ (froom Row′.mir l9 0) ∷ ‵ (froom (tyInt w8) l10 0) ∷ ‵ (froom (tyInt w8) l11 0) ∷ ‵ (froom Sync-row′.mir l12 0) ∷ ‵ (froom out-ty l13 0) ∷ ‵ (froom out-ty l14 0) ∷ ‵ (froom (tyInt w8) l15 0) ∷ ‵ (froom Ruling-row′.mir l16 0) ∷ ‵ (froom (tyInt w64) l17 0) ∷ ‵ (froom Row′.mir l18 0) ∷ ‵ (froom out-ty l19 0) ∷ ‵ (froom tyBool l20 0) ∷ ‵ (froom Ruling-row′.mir l21 0) ∷ ‵ (froom (tyInt w64) l22 0) ∷ ‵ (froom Row′.mir l23 0) ∷ ‵ (froom out-ty l24 0) ∷ ‵ (froom Fault-row′.mir l25 0) ∷ ‵ (froom out-ty l26 0) ∷ ‵ (froom out-ty l27 0) ∷ ‵ (froom Answer-row′.mir l28 0) ∷ ‵ (froom T′.mir l29 0) ∷ ‵ (froom (tyRef erased mut rec-ty) l30 0) ∷ ‵ (froom (tyInt w64) l31 0) ∷ ‵ (froom tyPtr l32 0) ∷ ‵ (froom tyPtr l33 0) ∷ ‵ (froom Row′.mir l34 0) ∷ ‵ (froom (tyRef erased mut rec-ty) l35 0) ∷ ‵ (froom T′.mir l36 0) ∷ ‵ (froom (tyRef erased mut rec-ty) l37 0) ∷ ‵ (froom T′.mir l38 0) ∷ ‵ (froom (tyRef erased mut rec-ty) l39 0) ∷ ‵ (froom T′.mir l40 0) ∷ ‵ (froom (tyInt w64) l41 0) ∷ ‵ (froom tyPtr l42 0) ∷ ‵ (froom tyPtr l43 0) ∷ ‵ (froom Row′.mir l44 0) ∷ ‵ (froom (tyRef erased mut (tyInt w8)) l45 0) ∷ ‵ (froom (sliceTy (tyRef erased mut (tyInt w8))) l46 0) ∷ ‵ (froom (tyRef erased mut rec-ty) l47 0) ∷ ‵ (froom T′.mir l48 0) ∷ ‵ (froom (tyInt w64) l49 0) ∷ ‵ (froom tyPtr l50 0) ∷ ‵ (froom tyPtr l51 0) ∷ ‵ (froom Row′.mir l52 0) ∷ ‵ (froom (tyRef erased mut rec-ty) l53 0) ∷ ‵ (froom T′.mir l54 0) ∷ ‵ (froom (tyRef erased mut rec-ty) l55 0) ∷ ‵ (froom T′.mir l56 0) ∷ ‵ (froom (tyRef erased mut rec-ty) l57 0) ∷ Dies) (runs C Λ En code-due (anyQ (Next call)))
         on-due s z =
             fsplit3 ! $ drop ! $
             opens ! tt T.the-row {h = h} b o (λ vs. spelt ! T.the-row (Is T.the-row) (shows 𝓤 H A T.the-row) (LL.vals T.the-type T′.the-laws) (LL.tells T.the-type T′.the-laws) fullShare h vs b o $
             move ! (1 ∷ []) $ peeks ! T.the-row (Is T.the-row) (shows 𝓤 H A T.the-row) h (mach h ∷ []) (λ was.
-            assigns ! (of-opd ! (load ! (from ! (hop ! (look ! 8 refl) (stop !))) (look-raw ! 1 refl))) (from ! (stop !)) (init ! 53 refl (LL.lawful T.the-type T′.the-laws 𝓤 H A W .typed h _ was .0)) $
+            assigns ! (of-opd ! (load ! (from ! (hop ! (look ! 8 refl) (stop !))) (look-raw ! 1 refl))) (from ! (stop !)) (init ! 45 refl (LL.lawful T.the-type T′.the-laws 𝓤 H A W .typed h _ was .0)) $
             move ! (1 ∷ 0 ∷ 2 ∷ 3 ∷ 4 ∷ []) $ closes ! tt T.the-row h (mach h ∷ []) b o $
             move ! (3 ∷ []) $ fsplit ! $ move ! (1 ∷ []) $ fsplit ! $
             use1 W (‵ (fres γ-room (codedHoleys u8 .code (heres u8 room)))) (W .names .obs-res γ-room (codedHoleys u8 .code (heres u8 room))) $ use1 W (‵ (finally u8 γ-room room)) (res-finally 𝓤 H A W (named 1) κ-room u8 γ-room room) $
             use0 W (raw ((Dues 𝓤 H A at-mem run) .pre to-due)) (asked-due was) $
-            calls-at ! fm (Dues 𝓤 H A at-mem run) known-dues to-due (and-then ! (load ! (from ! (stop !)) (look ! 54 refl)) (no-more !)) (λ v.
+            calls-at ! fm (Dues 𝓤 H A at-mem run) known-dues to-due (and-then ! (load ! (from ! (stop !)) (look ! 46 refl)) (no-more !)) (λ v.
             use1 W (later (some (λ (x : Change). (‵ ftrue ⊛ ‵ (S.the-row .own x (v ∷ []))) ⊛ raw (ensured 𝓤 H A dues.ended (dues.clauses 𝓤 H A at-mem run) tt args-due tt x)))) (id⊢ 𝓤 _) $ await ! tt $ pick ! (λ x.
             split ! $ move ! (1 ∷ []) $ use1 W (some (λ (ws : Lasts dues.ended tt args-due). ‵ (lasts dues.ended tt args-due ws) ⊛ raw (fact 𝓤 (changed h x ≡ doneOf (stepOf h (syncDue)))))) (id⊢ 𝓤 _) $ pick ! (λ ws.
             split ! $ move ! (1 ∷ []) $ heard ! (changed h x ≡ doneOf (stepOf h (syncDue))) (λ e. drop ! $ split ! $ drop ! $
             peeks ! S.the-row (Is S.the-row) (shows 𝓤 H A S.the-row) x (v ∷ []) (λ is. drop ! $
-            land ! (from ! (stop !)) (init ! 25 refl (LL.lawful S.the-type S′.the-laws 𝓤 H A W .typed x _ is .0)) $ rewrite ! 25 (λ (u : Val). ‵ (fat fullShare out-ty l18 0 u)) (ap only (LL.tells S.the-type S′.the-laws x _ is)) refl $
-            keep ! (3 ∷ 4 ∷ 5 ∷ 6 ∷ 0 ∷ 7 ∷ 8 ∷ 9 ∷ 10 ∷ 11 ∷ 12 ∷ 13 ∷ 14 ∷ 15 ∷ 16 ∷ 17 ∷ 18 ∷ 19 ∷ 20 ∷ 21 ∷ 22 ∷ 23 ∷ 24 ∷ 25 ∷ 26 ∷ 27 ∷ 28 ∷ 29 ∷ 30 ∷ 31 ∷ 32 ∷ 33 ∷ 34 ∷ 35 ∷ 36 ∷ 37 ∷ 38 ∷ 39 ∷ 40 ∷ 41 ∷ 42 ∷ 43 ∷ 44 ∷ 45 ∷ 46 ∷ 47 ∷ 48 ∷ 49 ∷ 50 ∷ 51 ∷ 52 ∷ 53 ∷ 54 ∷ 55 ∷ 56 ∷ 57 ∷ 58 ∷ 59 ∷ 60 ∷ 61 ∷ 62 ∷ 63 ∷ 64 ∷ 65 ∷ 66 ∷ 67 ∷ 68 ∷ 69 ∷ 70 ∷ 71 ∷ 72 ∷ 73 ∷ 74 ∷ 75 ∷ 76 ∷ 77 ∷ 78 ∷ 79 ∷ 80 ∷ 81 ∷ 82 ∷ 83 ∷ 84 ∷ 85 ∷ 86 ∷ 87 ∷ 88 ∷ 89 ∷ 90 ∷ 91 ∷ 92 ∷ 93 ∷ 94 ∷ 95 ∷ 96 ∷ 97 ∷ 98 ∷ 99 ∷ 100 ∷ 101 ∷ 102 ∷ 103 ∷ 104 ∷ 105 ∷ 106 ∷ 107 ∷ 108 ∷ 109 ∷ 110 ∷ 111 ∷ 112 ∷ 113 ∷ 114 ∷ 115 ∷ 116 ∷ 117 ∷ 118 ∷ 119 ∷ 120 ∷ 121 ∷ 122 ∷ 123 ∷ 124 ∷ 125 ∷ 126 ∷ 127 ∷ 128 ∷ 129 ∷ 130 ∷ 131 ∷ 132 ∷ 133 ∷ 134 ∷ 135 ∷ 136 ∷ 137 ∷ 138 ∷ []) $ carried-due x (change-is x _ is) (e ∙ ap (λ (s : Step). doneOf (stepOf h s)) s) room z refl)))))))
+            land ! (from ! (stop !)) (init ! 21 refl (LL.lawful S.the-type S′.the-laws 𝓤 H A W .typed x _ is .0)) $ rewrite ! 21 (λ (u : Val). ‵ (fat fullShare out-ty l14 0 u)) (ap only (LL.tells S.the-type S′.the-laws x _ is)) refl $
+            keep ! (3 ∷ 4 ∷ 5 ∷ 6 ∷ 0 ∷ 7 ∷ 8 ∷ 9 ∷ 10 ∷ 11 ∷ 12 ∷ 13 ∷ 14 ∷ 15 ∷ 16 ∷ 17 ∷ 18 ∷ 19 ∷ 20 ∷ 21 ∷ 22 ∷ 23 ∷ 24 ∷ 25 ∷ 26 ∷ 27 ∷ 28 ∷ 29 ∷ 30 ∷ 31 ∷ 32 ∷ 33 ∷ 34 ∷ 35 ∷ 36 ∷ 37 ∷ 38 ∷ 39 ∷ 40 ∷ 41 ∷ 42 ∷ 43 ∷ 44 ∷ 45 ∷ 46 ∷ 47 ∷ 48 ∷ 49 ∷ 50 ∷ 51 ∷ 52 ∷ 53 ∷ 54 ∷ 55 ∷ 56 ∷ 57 ∷ 58 ∷ 59 ∷ 60 ∷ 61 ∷ 62 ∷ 63 ∷ 64 ∷ 65 ∷ 66 ∷ 67 ∷ 68 ∷ 69 ∷ 70 ∷ 71 ∷ 72 ∷ 73 ∷ 74 ∷ 75 ∷ 76 ∷ 77 ∷ 78 ∷ 79 ∷ 80 ∷ 81 ∷ 82 ∷ 83 ∷ 84 ∷ 85 ∷ 86 ∷ 87 ∷ 88 ∷ 89 ∷ 90 ∷ 91 ∷ 92 ∷ 93 ∷ 94 ∷ 95 ∷ 96 ∷ 97 ∷ 98 ∷ 99 ∷ 100 ∷ 101 ∷ 102 ∷ 103 ∷ 104 ∷ 105 ∷ 106 ∷ 107 ∷ 108 ∷ 109 ∷ 110 ∷ 111 ∷ 112 ∷ 113 ∷ 114 ∷ 115 ∷ 116 ∷ 117 ∷ 118 ∷ 119 ∷ 120 ∷ 121 ∷ 122 ∷ []) $ carried-due x (change-is x _ is) (e ∙ ap (λ (s : Step). doneOf (stepOf h s)) s) room z refl)))))))
 
         -- what `Slot` changes is carried out
-        carried-slot : {y2 y19 y48 y53 y54 y20 y21 y22 y49 y50 y51 y52 : Val} (x : Change) → Is S.the-row x (LL.val S.the-type S′.the-laws x ∷ []) → changed h x ≡ doneOf (stepOf h (stepFor call (bytesIn f) room)) → (zs : List ℕ) → zs ≡ roomFor h call room → length zs ≡ length room → Sq W (‵ (fobs γ (T.the-row .coded .code h)) ∷ ‵ (fbor κ (Body (mem T.the-row) b o γ)) ∷ ‵ (flft κ q) ∷ ‵ (flft κ-room q-room) ∷ ‵ (finally u8 γ-room zs) ∷ ‵ (froom Answer-row′.mir l0 0) ∷ ‵ (fat fullShare (tyRef (named 0) mut rec-ty) l1 0 (vptr b o)) ∷ ‵ (fat fullShare Call-row′.mir l2 0 y2) ∷ ‵ (fat fullShare Frame-row′.mir l3 0 (LL.val Frame-row.the-type Frame-row′.the-laws f)) ∷ ‵ (fat fullShare (sliceTy (tyRef (named 1) mut (tyInt w8))) l4 0 s-room) ∷ ‵ (froom out-ty l5 0) ∷ ‵ (froom (tyInt w8) l6 0) ∷ ‵ (froom Control-row′.mir l7 0) ∷ ‵ (froom (tyInt w64) l8 0) ∷ ‵ (froom Row′.mir l9 0) ∷ ‵ (froom (tyInt w8) l10 0) ∷ ‵ (froom (tyInt w8) l11 0) ∷ ‵ (froom Control-row′.mir l12 0) ∷ ‵ (froom (tyInt w64) l13 0) ∷ ‵ (froom Row′.mir l14 0) ∷ ‵ (froom out-ty l15 0) ∷ ‵ (froom Sync-row′.mir l16 0) ∷ ‵ (froom out-ty l17 0) ∷ ‵ (froom out-ty l18 0) ∷ ‵ (fat fullShare (tyInt w8) l19 0 y19) ∷ ‵ (fat fullShare Ruling-row′.mir l20 0 y20) ∷ ‵ (fat fullShare (tyInt w64) l21 0 y21) ∷ ‵ (fat fullShare Row′.mir l22 0 y22) ∷ ‵ (fat fullShare out-ty l23 0 (LL.val S.the-type S′.the-laws x)) ∷ ‵ (froom tyBool l24 0) ∷ ‵ (froom Ruling-row′.mir l25 0) ∷ ‵ (froom (tyInt w64) l26 0) ∷ ‵ (froom Row′.mir l27 0) ∷ ‵ (froom out-ty l28 0) ∷ ‵ (froom Fault-row′.mir l29 0) ∷ ‵ (froom out-ty l30 0) ∷ ‵ (froom out-ty l31 0) ∷ ‵ (froom Answer-row′.mir l32 0) ∷ ‵ (froom T′.mir l33 0) ∷ ‵ (froom (tyRef erased mut rec-ty) l34 0) ∷ ‵ (froom (tyInt w64) l35 0) ∷ ‵ (froom tyPtr l36 0) ∷ ‵ (froom tyPtr l37 0) ∷ ‵ (froom Row′.mir l38 0) ∷ ‵ (froom (tyInt w64) l39 0) ∷ ‵ (froom tyPtr l40 0) ∷ ‵ (froom tyPtr l41 0) ∷ ‵ (froom Row′.mir l42 0) ∷ ‵ (froom (tyRef erased mut rec-ty) l43 0) ∷ ‵ (froom T′.mir l44 0) ∷ ‵ (froom (tyRef erased mut rec-ty) l45 0) ∷ ‵ (froom T′.mir l46 0) ∷ ‵ (froom (tyRef erased mut rec-ty) l47 0) ∷ ‵ (fat fullShare T′.mir l48 0 y48) ∷ ‵ (fat fullShare (tyInt w64) l49 0 y49) ∷ ‵ (fat fullShare tyPtr l50 0 y50) ∷ ‵ (fat fullShare tyPtr l51 0 y51) ∷ ‵ (fat fullShare Row′.mir l52 0 y52) ∷ ‵ (fat fullShare (tyRef erased mut (tyInt w8)) l53 0 y53) ∷ ‵ (fat fullShare (sliceTy (tyRef erased mut (tyInt w8))) l54 0 y54) ∷ ‵ (froom (tyRef erased mut rec-ty) l55 0) ∷ ‵ (froom T′.mir l56 0) ∷ ‵ (froom (tyInt w64) l57 0) ∷ ‵ (froom tyPtr l58 0) ∷ ‵ (froom tyPtr l59 0) ∷ ‵ (froom Row′.mir l60 0) ∷ ‵ (froom (tyRef erased mut rec-ty) l61 0) ∷ ‵ (froom T′.mir l62 0) ∷ ‵ (froom (tyRef erased mut rec-ty) l63 0) ∷ ‵ (froom T′.mir l64 0) ∷ ‵ (froom (tyRef erased mut rec-ty) l65 0) ∷ Dies) (runs C Λ En (carrying 55 23) (anyQ (Next call)))
+        carried-slot : {y2 y15 y40 y45 y46 y16 y17 y18 y41 y42 y43 y44 : Val} (x : Change) → Is S.the-row x (LL.val S.the-type S′.the-laws x ∷ []) → changed h x ≡ doneOf (stepOf h (stepFor call (bytesIn f) room)) → (zs : List ℕ) → zs ≡ roomFor h call room → length zs ≡ length room → Sq W (‵ (fobs γ (T.the-row .coded .code h)) ∷ ‵ (fbor κ (Body (mem T.the-row) b o γ)) ∷ ‵ (flft κ q) ∷ ‵ (flft κ-room q-room) ∷ ‵ (finally u8 γ-room zs) ∷ ‵ (froom Answer-row′.mir l0 0) ∷ ‵ (fat fullShare (tyRef (named 0) mut rec-ty) l1 0 (vptr b o)) ∷ ‵ (fat fullShare Call-row′.mir l2 0 y2) ∷ ‵ (fat fullShare Frame-row′.mir l3 0 (LL.val Frame-row.the-type Frame-row′.the-laws f)) ∷ ‵ (fat fullShare (sliceTy (tyRef (named 1) mut (tyInt w8))) l4 0 s-room) ∷ ‵ (froom out-ty l5 0) ∷ ‵ (froom (tyInt w8) l6 0) ∷ ‵ (froom Control-row′.mir l7 0) ∷ ‵ (froom (tyInt w64) l8 0) ∷ ‵ (froom Row′.mir l9 0) ∷ ‵ (froom (tyInt w8) l10 0) ∷ ‵ (froom (tyInt w8) l11 0) ∷ ‵ (froom Sync-row′.mir l12 0) ∷ ‵ (froom out-ty l13 0) ∷ ‵ (froom out-ty l14 0) ∷ ‵ (fat fullShare (tyInt w8) l15 0 y15) ∷ ‵ (fat fullShare Ruling-row′.mir l16 0 y16) ∷ ‵ (fat fullShare (tyInt w64) l17 0 y17) ∷ ‵ (fat fullShare Row′.mir l18 0 y18) ∷ ‵ (fat fullShare out-ty l19 0 (LL.val S.the-type S′.the-laws x)) ∷ ‵ (froom tyBool l20 0) ∷ ‵ (froom Ruling-row′.mir l21 0) ∷ ‵ (froom (tyInt w64) l22 0) ∷ ‵ (froom Row′.mir l23 0) ∷ ‵ (froom out-ty l24 0) ∷ ‵ (froom Fault-row′.mir l25 0) ∷ ‵ (froom out-ty l26 0) ∷ ‵ (froom out-ty l27 0) ∷ ‵ (froom Answer-row′.mir l28 0) ∷ ‵ (froom T′.mir l29 0) ∷ ‵ (froom (tyRef erased mut rec-ty) l30 0) ∷ ‵ (froom (tyInt w64) l31 0) ∷ ‵ (froom tyPtr l32 0) ∷ ‵ (froom tyPtr l33 0) ∷ ‵ (froom Row′.mir l34 0) ∷ ‵ (froom (tyRef erased mut rec-ty) l35 0) ∷ ‵ (froom T′.mir l36 0) ∷ ‵ (froom (tyRef erased mut rec-ty) l37 0) ∷ ‵ (froom T′.mir l38 0) ∷ ‵ (froom (tyRef erased mut rec-ty) l39 0) ∷ ‵ (fat fullShare T′.mir l40 0 y40) ∷ ‵ (fat fullShare (tyInt w64) l41 0 y41) ∷ ‵ (fat fullShare tyPtr l42 0 y42) ∷ ‵ (fat fullShare tyPtr l43 0 y43) ∷ ‵ (fat fullShare Row′.mir l44 0 y44) ∷ ‵ (fat fullShare (tyRef erased mut (tyInt w8)) l45 0 y45) ∷ ‵ (fat fullShare (sliceTy (tyRef erased mut (tyInt w8))) l46 0 y46) ∷ ‵ (froom (tyRef erased mut rec-ty) l47 0) ∷ ‵ (froom T′.mir l48 0) ∷ ‵ (froom (tyInt w64) l49 0) ∷ ‵ (froom tyPtr l50 0) ∷ ‵ (froom tyPtr l51 0) ∷ ‵ (froom Row′.mir l52 0) ∷ ‵ (froom (tyRef erased mut rec-ty) l53 0) ∷ ‵ (froom T′.mir l54 0) ∷ ‵ (froom (tyRef erased mut rec-ty) l55 0) ∷ ‵ (froom T′.mir l56 0) ∷ ‵ (froom (tyRef erased mut rec-ty) l57 0) ∷ Dies) (runs C Λ En (carrying 47 19) (anyQ (Next call)))
         carried-slot x x-is e zs z l =
-            assigns ! (addr ! (from ! (hop ! (look ! 6 refl) (stop !)))) (from ! (stop !)) (init ! 60 refl (tt, tt)) $
+            assigns ! (addr ! (from ! (hop ! (look ! 6 refl) (stop !)))) (from ! (stop !)) (init ! 52 refl (tt, tt)) $
             group ! 3 $ use1 W (raw ((Carries 𝓤 H A at-mem run) .pre (to-carry x))) (asked-carry x x-is) $
-            calls-at-last ! fm (Carries 𝓤 H A at-mem run) known-carries (to-carry x) (and-then ! (load ! (from ! (stop !)) (look ! 58 refl)) (and-then ! (load ! (from ! (stop !)) (look ! 26 refl)) (no-more !))) (λ v.
+            calls-at-last ! fm (Carries 𝓤 H A at-mem run) known-carries (to-carry x) (and-then ! (load ! (from ! (stop !)) (look ! 50 refl)) (and-then ! (load ! (from ! (stop !)) (look ! 22 refl)) (no-more !))) (λ v.
             use1 W (later (some (λ (m : Answer). ((‵ (flft κ q) ⊛ ‵ ftrue) ⊛ ‵ (Answer-row.the-row .own m (v ∷ []))) ⊛ raw (ensured 𝓤 H A carries.ended (carries.clauses 𝓤 H A at-mem run) (κ, tt) (args-carry x) tt m)))) (id⊢ 𝓤 _) $ await ! tt $ pick ! (λ m.
             split ! $ move ! (1 ∷ []) $ use1 W (some (λ (ws : Lasts carries.ended (κ, tt) (args-carry x)). ‵ (lasts carries.ended (κ, tt) (args-carry x) ws) ⊛ raw (fact 𝓤 ((ws .0 ≡ changed h x .next) × (m ≡ x .answer))))) (id⊢ 𝓤 _) $ pick ! (λ ws.
             split ! $ move ! (1 ∷ []) $ heard ! ((ws .0 ≡ changed h x .next) × (m ≡ x .answer)) (λ d. fsplit ! $
             move ! (2 ∷ []) $ split ! $ move ! (1 ∷ []) $ peeks ! Answer-row.the-row (Is Answer-row.the-row) (shows 𝓤 H A Answer-row.the-row) m (v ∷ []) (λ is. drop ! $ split ! $
-            land-last ! (from ! (stop !)) (init ! 38 refl (EL.lawful Answer-row.the-type Answer-row′.the-laws 𝓤 H A W tt .typed m _ is .0)) $ rewrite ! 38 (λ (u : Val). ‵ (fat fullShare Answer-row′.mir l32 0 u)) (ap only (EL.tells Answer-row.the-type Answer-row′.the-laws m _ is)) refl $
-            exec ! C Λ En pieces.t-2 (atRet En (Post call)) $ forget ! 25 refl $ forget ! 26 refl $ forget ! 27 refl $ forget ! 28 refl $ forget ! 29 refl $ forget ! 54 refl $ forget ! 55 refl $ forget ! 56 refl $ forget ! 57 refl $ forget ! 58 refl $ forget ! 59 refl $ forget ! 60 refl $ forget ! 61 refl $
-            keep ! (2 ∷ 0 ∷ 4 ∷ 5 ∷ 6 ∷ 7 ∷ 8 ∷ 9 ∷ 10 ∷ 11 ∷ 12 ∷ 13 ∷ 14 ∷ 15 ∷ 16 ∷ 17 ∷ 18 ∷ 19 ∷ 20 ∷ 21 ∷ 22 ∷ 23 ∷ 24 ∷ 25 ∷ 26 ∷ 27 ∷ 28 ∷ 29 ∷ 30 ∷ 31 ∷ 32 ∷ 33 ∷ 34 ∷ 35 ∷ 36 ∷ 37 ∷ 38 ∷ 39 ∷ 40 ∷ 41 ∷ 42 ∷ 43 ∷ 44 ∷ 45 ∷ 46 ∷ 47 ∷ 48 ∷ 49 ∷ 50 ∷ 51 ∷ 52 ∷ 53 ∷ 54 ∷ 55 ∷ 56 ∷ 57 ∷ 58 ∷ 59 ∷ 60 ∷ 61 ∷ 62 ∷ 63 ∷ 64 ∷ 65 ∷ 66 ∷ 67 ∷ 68 ∷ 69 ∷ 70 ∷ 71 ∷ 72 ∷ 73 ∷ 74 ∷ 75 ∷ 76 ∷ 77 ∷ 78 ∷ 79 ∷ 80 ∷ 81 ∷ 82 ∷ 83 ∷ 84 ∷ 85 ∷ 86 ∷ 87 ∷ 88 ∷ 89 ∷ 90 ∷ 91 ∷ 92 ∷ 93 ∷ 94 ∷ 95 ∷ 96 ∷ 97 ∷ 98 ∷ 99 ∷ 100 ∷ 101 ∷ 102 ∷ 103 ∷ 104 ∷ 105 ∷ 106 ∷ 107 ∷ 108 ∷ 109 ∷ 110 ∷ 111 ∷ 112 ∷ 113 ∷ 114 ∷ 115 ∷ 116 ∷ 117 ∷ 118 ∷ 119 ∷ 120 ∷ 121 ∷ 122 ∷ 123 ∷ 124 ∷ 125 ∷ 126 ∷ 127 ∷ 128 ∷ 129 ∷ 130 ∷ 131 ∷ 132 ∷ 133 ∷ 134 ∷ 135 ∷ 136 ∷ 137 ∷ []) $ answered (ws .0) m zs (d .0 ∙ ap (λ (u : Done). u .next) e, d .1 ∙ ap (λ (u : Done). u .answer) e, z) (answer-is m _ is) l)))))
+            land-last ! (from ! (stop !)) (init ! 34 refl (EL.lawful Answer-row.the-type Answer-row′.the-laws 𝓤 H A W tt .typed m _ is .0)) $ rewrite ! 34 (λ (u : Val). ‵ (fat fullShare Answer-row′.mir l28 0 u)) (ap only (EL.tells Answer-row.the-type Answer-row′.the-laws m _ is)) refl $
+            exec ! C Λ En pieces.t-2 (atRet En (Post call)) $ forget ! 21 refl $ forget ! 22 refl $ forget ! 23 refl $ forget ! 24 refl $ forget ! 25 refl $ forget ! 46 refl $ forget ! 47 refl $ forget ! 48 refl $ forget ! 49 refl $ forget ! 50 refl $ forget ! 51 refl $ forget ! 52 refl $ forget ! 53 refl $
+            keep ! (2 ∷ 0 ∷ 4 ∷ 5 ∷ 6 ∷ 7 ∷ 8 ∷ 9 ∷ 10 ∷ 11 ∷ 12 ∷ 13 ∷ 14 ∷ 15 ∷ 16 ∷ 17 ∷ 18 ∷ 19 ∷ 20 ∷ 21 ∷ 22 ∷ 23 ∷ 24 ∷ 25 ∷ 26 ∷ 27 ∷ 28 ∷ 29 ∷ 30 ∷ 31 ∷ 32 ∷ 33 ∷ 34 ∷ 35 ∷ 36 ∷ 37 ∷ 38 ∷ 39 ∷ 40 ∷ 41 ∷ 42 ∷ 43 ∷ 44 ∷ 45 ∷ 46 ∷ 47 ∷ 48 ∷ 49 ∷ 50 ∷ 51 ∷ 52 ∷ 53 ∷ 54 ∷ 55 ∷ 56 ∷ 57 ∷ 58 ∷ 59 ∷ 60 ∷ 61 ∷ 62 ∷ 63 ∷ 64 ∷ 65 ∷ 66 ∷ 67 ∷ 68 ∷ 69 ∷ 70 ∷ 71 ∷ 72 ∷ 73 ∷ 74 ∷ 75 ∷ 76 ∷ 77 ∷ 78 ∷ 79 ∷ 80 ∷ 81 ∷ 82 ∷ 83 ∷ 84 ∷ 85 ∷ 86 ∷ 87 ∷ 88 ∷ 89 ∷ 90 ∷ 91 ∷ 92 ∷ 93 ∷ 94 ∷ 95 ∷ 96 ∷ 97 ∷ 98 ∷ 99 ∷ 100 ∷ 101 ∷ 102 ∷ 103 ∷ 104 ∷ 105 ∷ 106 ∷ 107 ∷ 108 ∷ 109 ∷ 110 ∷ 111 ∷ 112 ∷ 113 ∷ 114 ∷ 115 ∷ 116 ∷ 117 ∷ 118 ∷ 119 ∷ 120 ∷ 121 ∷ []) $ answered (ws .0) m zs (d .0 ∙ ap (λ (u : Done). u .next) e, d .1 ∙ ap (λ (u : Done). u .answer) e, z) (answer-is m _ is) l)))))
 
         -- what is made of the row
-        making-slot : {y2 y19 y48 y21 y49 y50 y51 y52 : Val} (r : Ruling) → Is Ruling-row.the-row r (LL.val Ruling-row.the-type Ruling-row′.the-laws r ∷ []) → ruled h [] r ≡ doneOf (stepOf h (stepFor call (bytesIn f) room)) → roomSent (h .rows) room (r .verdict) ≡ roomFor h call room → (i : ℕ) → i ≡ rowOf (r .verdict) → length (h .rows) ≡ 16 → Is Row.the-row (rowAt (h .rows) i) (LL.val Row.the-type Row′.the-laws (rowAt (h .rows) i) ∷ []) → Sq W (‵ (fobs γ (T.the-row .coded .code h)) ∷ ‵ (fbor κ (Body (mem T.the-row) b o γ)) ∷ ‵ (flft κ q) ∷ ‵ Room′ ∷ ‵ (flft κ-room q-room) ∷ ‵ (froom Answer-row′.mir l0 0) ∷ ‵ (fat fullShare (tyRef (named 0) mut rec-ty) l1 0 (vptr b o)) ∷ ‵ (fat fullShare Call-row′.mir l2 0 y2) ∷ ‵ (fat fullShare Frame-row′.mir l3 0 (LL.val Frame-row.the-type Frame-row′.the-laws f)) ∷ ‵ (fat fullShare (sliceTy (tyRef (named 1) mut (tyInt w8))) l4 0 s-room) ∷ ‵ (froom out-ty l5 0) ∷ ‵ (froom (tyInt w8) l6 0) ∷ ‵ (froom Control-row′.mir l7 0) ∷ ‵ (froom (tyInt w64) l8 0) ∷ ‵ (froom Row′.mir l9 0) ∷ ‵ (froom (tyInt w8) l10 0) ∷ ‵ (froom (tyInt w8) l11 0) ∷ ‵ (froom Control-row′.mir l12 0) ∷ ‵ (froom (tyInt w64) l13 0) ∷ ‵ (froom Row′.mir l14 0) ∷ ‵ (froom out-ty l15 0) ∷ ‵ (froom Sync-row′.mir l16 0) ∷ ‵ (froom out-ty l17 0) ∷ ‵ (froom out-ty l18 0) ∷ ‵ (fat fullShare (tyInt w8) l19 0 y19) ∷ ‵ (fat fullShare Ruling-row′.mir l20 0 (LL.val Ruling-row.the-type Ruling-row′.the-laws r)) ∷ ‵ (fat fullShare (tyInt w64) l21 0 y21) ∷ ‵ (fat fullShare Row′.mir l22 0 (LL.val Row.the-type Row′.the-laws (rowAt (h .rows) i))) ∷ ‵ (froom out-ty l23 0) ∷ ‵ (froom tyBool l24 0) ∷ ‵ (froom Ruling-row′.mir l25 0) ∷ ‵ (froom (tyInt w64) l26 0) ∷ ‵ (froom Row′.mir l27 0) ∷ ‵ (froom out-ty l28 0) ∷ ‵ (froom Fault-row′.mir l29 0) ∷ ‵ (froom out-ty l30 0) ∷ ‵ (froom out-ty l31 0) ∷ ‵ (froom Answer-row′.mir l32 0) ∷ ‵ (froom T′.mir l33 0) ∷ ‵ (froom (tyRef erased mut rec-ty) l34 0) ∷ ‵ (froom (tyInt w64) l35 0) ∷ ‵ (froom tyPtr l36 0) ∷ ‵ (froom tyPtr l37 0) ∷ ‵ (froom Row′.mir l38 0) ∷ ‵ (froom (tyInt w64) l39 0) ∷ ‵ (froom tyPtr l40 0) ∷ ‵ (froom tyPtr l41 0) ∷ ‵ (froom Row′.mir l42 0) ∷ ‵ (froom (tyRef erased mut rec-ty) l43 0) ∷ ‵ (froom T′.mir l44 0) ∷ ‵ (froom (tyRef erased mut rec-ty) l45 0) ∷ ‵ (froom T′.mir l46 0) ∷ ‵ (froom (tyRef erased mut rec-ty) l47 0) ∷ ‵ (fat fullShare T′.mir l48 0 y48) ∷ ‵ (fat fullShare (tyInt w64) l49 0 y49) ∷ ‵ (fat fullShare tyPtr l50 0 y50) ∷ ‵ (fat fullShare tyPtr l51 0 y51) ∷ ‵ (fat fullShare Row′.mir l52 0 y52) ∷ ‵ (froom (tyRef erased mut (tyInt w8)) l53 0) ∷ ‵ (froom (sliceTy (tyRef erased mut (tyInt w8))) l54 0) ∷ ‵ (froom (tyRef erased mut rec-ty) l55 0) ∷ ‵ (froom T′.mir l56 0) ∷ ‵ (froom (tyInt w64) l57 0) ∷ ‵ (froom tyPtr l58 0) ∷ ‵ (froom tyPtr l59 0) ∷ ‵ (froom Row′.mir l60 0) ∷ ‵ (froom (tyRef erased mut rec-ty) l61 0) ∷ ‵ (froom T′.mir l62 0) ∷ ‵ (froom (tyRef erased mut rec-ty) l63 0) ∷ ‵ (froom T′.mir l64 0) ∷ ‵ (froom (tyRef erased mut rec-ty) l65 0) ∷ Dies) (runs C Λ En code-making-slot (anyQ (Next call)))
+        making-slot : {y2 y15 y40 y17 y41 y42 y43 y44 : Val} (r : Ruling) → Is Ruling-row.the-row r (LL.val Ruling-row.the-type Ruling-row′.the-laws r ∷ []) → ruled h [] r ≡ doneOf (stepOf h (stepFor call (bytesIn f) room)) → roomSent (h .rows) room (r .verdict) ≡ roomFor h call room → (i : ℕ) → i ≡ rowOf (r .verdict) → length (h .rows) ≡ 16 → Is Row.the-row (rowAt (h .rows) i) (LL.val Row.the-type Row′.the-laws (rowAt (h .rows) i) ∷ []) → Sq W (‵ (fobs γ (T.the-row .coded .code h)) ∷ ‵ (fbor κ (Body (mem T.the-row) b o γ)) ∷ ‵ (flft κ q) ∷ ‵ Room′ ∷ ‵ (flft κ-room q-room) ∷ ‵ (froom Answer-row′.mir l0 0) ∷ ‵ (fat fullShare (tyRef (named 0) mut rec-ty) l1 0 (vptr b o)) ∷ ‵ (fat fullShare Call-row′.mir l2 0 y2) ∷ ‵ (fat fullShare Frame-row′.mir l3 0 (LL.val Frame-row.the-type Frame-row′.the-laws f)) ∷ ‵ (fat fullShare (sliceTy (tyRef (named 1) mut (tyInt w8))) l4 0 s-room) ∷ ‵ (froom out-ty l5 0) ∷ ‵ (froom (tyInt w8) l6 0) ∷ ‵ (froom Control-row′.mir l7 0) ∷ ‵ (froom (tyInt w64) l8 0) ∷ ‵ (froom Row′.mir l9 0) ∷ ‵ (froom (tyInt w8) l10 0) ∷ ‵ (froom (tyInt w8) l11 0) ∷ ‵ (froom Sync-row′.mir l12 0) ∷ ‵ (froom out-ty l13 0) ∷ ‵ (froom out-ty l14 0) ∷ ‵ (fat fullShare (tyInt w8) l15 0 y15) ∷ ‵ (fat fullShare Ruling-row′.mir l16 0 (LL.val Ruling-row.the-type Ruling-row′.the-laws r)) ∷ ‵ (fat fullShare (tyInt w64) l17 0 y17) ∷ ‵ (fat fullShare Row′.mir l18 0 (LL.val Row.the-type Row′.the-laws (rowAt (h .rows) i))) ∷ ‵ (froom out-ty l19 0) ∷ ‵ (froom tyBool l20 0) ∷ ‵ (froom Ruling-row′.mir l21 0) ∷ ‵ (froom (tyInt w64) l22 0) ∷ ‵ (froom Row′.mir l23 0) ∷ ‵ (froom out-ty l24 0) ∷ ‵ (froom Fault-row′.mir l25 0) ∷ ‵ (froom out-ty l26 0) ∷ ‵ (froom out-ty l27 0) ∷ ‵ (froom Answer-row′.mir l28 0) ∷ ‵ (froom T′.mir l29 0) ∷ ‵ (froom (tyRef erased mut rec-ty) l30 0) ∷ ‵ (froom (tyInt w64) l31 0) ∷ ‵ (froom tyPtr l32 0) ∷ ‵ (froom tyPtr l33 0) ∷ ‵ (froom Row′.mir l34 0) ∷ ‵ (froom (tyRef erased mut rec-ty) l35 0) ∷ ‵ (froom T′.mir l36 0) ∷ ‵ (froom (tyRef erased mut rec-ty) l37 0) ∷ ‵ (froom T′.mir l38 0) ∷ ‵ (froom (tyRef erased mut rec-ty) l39 0) ∷ ‵ (fat fullShare T′.mir l40 0 y40) ∷ ‵ (fat fullShare (tyInt w64) l41 0 y41) ∷ ‵ (fat fullShare tyPtr l42 0 y42) ∷ ‵ (fat fullShare tyPtr l43 0 y43) ∷ ‵ (fat fullShare Row′.mir l44 0 y44) ∷ ‵ (froom (tyRef erased mut (tyInt w8)) l45 0) ∷ ‵ (froom (sliceTy (tyRef erased mut (tyInt w8))) l46 0) ∷ ‵ (froom (tyRef erased mut rec-ty) l47 0) ∷ ‵ (froom T′.mir l48 0) ∷ ‵ (froom (tyInt w64) l49 0) ∷ ‵ (froom tyPtr l50 0) ∷ ‵ (froom tyPtr l51 0) ∷ ‵ (froom Row′.mir l52 0) ∷ ‵ (froom (tyRef erased mut rec-ty) l53 0) ∷ ‵ (froom T′.mir l54 0) ∷ ‵ (froom (tyRef erased mut rec-ty) l55 0) ∷ ‵ (froom T′.mir l56 0) ∷ ‵ (froom (tyRef erased mut rec-ty) l57 0) ∷ Dies) (runs C Λ En code-making-slot (anyQ (Next call)))
         making-slot r r-is e z i p sixteen k-is =
-            assigns ! (addr ! (from ! (fld ! refl (hop ! (look-in ! 9 (sub ! 0 refl (whole !))) (stop !))))) (from ! (stop !)) (init ! 58 refl (tt, tt)) $
-            assigns ! (agg ! (and-then ! (load ! (from ! (stop !)) (look ! 58 refl)) (and-then ! (load ! (from ! (fld ! refl (stop !))) (look-in ! 9 (sub ! 1 refl (whole !)))) (no-more !)))) (from ! (stop !)) (init ! 59 refl (tt, (tt, (record { fits = room-room .0 }, tt)))) $
+            assigns ! (addr ! (from ! (fld ! refl (hop ! (look-in ! 9 (sub ! 0 refl (whole !))) (stop !))))) (from ! (stop !)) (init ! 50 refl (tt, tt)) $
+            assigns ! (agg ! (and-then ! (load ! (from ! (stop !)) (look ! 50 refl)) (and-then ! (load ! (from ! (fld ! refl (stop !))) (look-in ! 9 (sub ! 1 refl (whole !)))) (no-more !)))) (from ! (stop !)) (init ! 51 refl (tt, (tt, (record { fits = room-room .0 }, tt)))) $
             move ! (4 ∷ 3 ∷ []) $ group ! 2 $ use1 W (raw ((Filled 𝓤 H A at-mem run) .pre (to-filled r (rowAt (h .rows) i)))) (asked-filled r (rowAt (h .rows) i) r-is k-is) $
-            calls-at ! fm (Filled 𝓤 H A at-mem run) known-filled (to-filled r (rowAt (h .rows) i)) (and-then ! (load ! (from ! (stop !)) (look ! 24 refl)) (and-then ! (load ! (from ! (stop !)) (look ! 26 refl)) (and-then ! (load ! (from ! (stop !)) (look ! 58 refl)) (no-more !)))) (λ v.
+            calls-at ! fm (Filled 𝓤 H A at-mem run) known-filled (to-filled r (rowAt (h .rows) i)) (and-then ! (load ! (from ! (stop !)) (look ! 20 refl)) (and-then ! (load ! (from ! (stop !)) (look ! 22 refl)) (and-then ! (load ! (from ! (stop !)) (look ! 50 refl)) (no-more !)))) (λ v.
             use1 W (later (some (λ (x : Change). ((‵ (flft κ-room q-room) ⊛ ‵ ftrue) ⊛ ‵ (S.the-row .own x (v ∷ []))) ⊛ raw (ensured 𝓤 H A filled.ended (filled.clauses 𝓤 H A at-mem run) (κ-room, tt) (args-filled r (rowAt (h .rows) i)) tt x)))) (id⊢ 𝓤 _) $ await ! tt $ pick ! (λ x.
             split ! $ move ! (1 ∷ []) $ use1 W (some (λ (ws : Lasts filled.ended (κ-room, tt) (args-filled r (rowAt (h .rows) i))). ‵ (lasts filled.ended (κ-room, tt) (args-filled r (rowAt (h .rows) i)) ws) ⊛ raw (fact 𝓤 ((c : Controller) → length (c .rows) ≡ 16 → rowAt (h .rows) i ≡ rowAt (c .rows) (rowOf (r .verdict)) → changed c x ≡ ruled c [] r)) ⊛ raw (fact 𝓤 ((c : Controller) → rowAt (h .rows) i ≡ rowAt (c .rows) (rowOf (r .verdict)) → (ws .1 .1 .0) ≡ roomSent (c .rows) room (r .verdict))))) (id⊢ 𝓤 _) $ pick ! (λ ws.
             split ! $ move ! (1 ∷ []) $ split ! $ heard ! ((c : Controller) → length (c .rows) ≡ 16 → rowAt (h .rows) i ≡ rowAt (c .rows) (rowOf (r .verdict)) → changed c x ≡ ruled c [] r) (λ d. heard ! ((c : Controller) → rowAt (h .rows) i ≡ rowAt (c .rows) (rowOf (r .verdict)) → (ws .1 .1 .0) ≡ roomSent (c .rows) room (r .verdict)) (λ z₁. fsplit ! $ drop ! $ fsplit ! $ drop ! $ fsplit ! $ fsplit ! $ move ! (1 ∷ []) $ feqL ! (λ l.
             move ! (2 ∷ []) $ split ! $ move ! (1 ∷ []) $ peeks ! S.the-row (Is S.the-row) (shows 𝓤 H A S.the-row) x (v ∷ []) (λ is. drop ! $ split ! $
-            land ! (from ! (stop !)) (init ! 30 refl (LL.lawful S.the-type S′.the-laws 𝓤 H A W .typed x _ is .0)) $ rewrite ! 30 (λ (u : Val). ‵ (fat fullShare out-ty l23 0 u)) (ap only (LL.tells S.the-type S′.the-laws x _ is)) refl $
-            keep ! (4 ∷ 5 ∷ 6 ∷ 0 ∷ 2 ∷ 7 ∷ 8 ∷ 9 ∷ 10 ∷ 11 ∷ 12 ∷ 13 ∷ 14 ∷ 15 ∷ 16 ∷ 17 ∷ 18 ∷ 19 ∷ 20 ∷ 21 ∷ 22 ∷ 23 ∷ 24 ∷ 25 ∷ 26 ∷ 27 ∷ 28 ∷ 29 ∷ 30 ∷ 31 ∷ 32 ∷ 33 ∷ 34 ∷ 35 ∷ 36 ∷ 37 ∷ 38 ∷ 39 ∷ 40 ∷ 41 ∷ 42 ∷ 43 ∷ 44 ∷ 45 ∷ 46 ∷ 47 ∷ 48 ∷ 49 ∷ 50 ∷ 51 ∷ 52 ∷ 53 ∷ 54 ∷ 55 ∷ 56 ∷ 57 ∷ 58 ∷ 59 ∷ 60 ∷ 61 ∷ 62 ∷ 63 ∷ 64 ∷ 65 ∷ 66 ∷ 67 ∷ 68 ∷ 69 ∷ 70 ∷ 71 ∷ 72 ∷ 73 ∷ 74 ∷ 75 ∷ 76 ∷ 77 ∷ 78 ∷ 79 ∷ 80 ∷ 81 ∷ 82 ∷ 83 ∷ 84 ∷ 85 ∷ 86 ∷ 87 ∷ 88 ∷ 89 ∷ 90 ∷ 91 ∷ 92 ∷ 93 ∷ 94 ∷ 95 ∷ 96 ∷ 97 ∷ 98 ∷ 99 ∷ 100 ∷ 101 ∷ 102 ∷ 103 ∷ 104 ∷ 105 ∷ 106 ∷ 107 ∷ 108 ∷ 109 ∷ 110 ∷ 111 ∷ 112 ∷ 113 ∷ 114 ∷ 115 ∷ 116 ∷ 117 ∷ 118 ∷ 119 ∷ 120 ∷ 121 ∷ 122 ∷ 123 ∷ 124 ∷ 125 ∷ 126 ∷ 127 ∷ 128 ∷ 129 ∷ 130 ∷ 131 ∷ 132 ∷ 133 ∷ 134 ∷ 135 ∷ 136 ∷ 137 ∷ 138 ∷ []) $ carried-slot x (change-is x _ is) (d h sixteen (ap (rowAt (h .rows)) p) ∙ e) (ws .1 .1 .0) (z₁ h (ap (rowAt (h .rows)) p) ∙ z) l)))))))
+            land ! (from ! (stop !)) (init ! 26 refl (LL.lawful S.the-type S′.the-laws 𝓤 H A W .typed x _ is .0)) $ rewrite ! 26 (λ (u : Val). ‵ (fat fullShare out-ty l19 0 u)) (ap only (LL.tells S.the-type S′.the-laws x _ is)) refl $
+            keep ! (4 ∷ 5 ∷ 6 ∷ 0 ∷ 2 ∷ 7 ∷ 8 ∷ 9 ∷ 10 ∷ 11 ∷ 12 ∷ 13 ∷ 14 ∷ 15 ∷ 16 ∷ 17 ∷ 18 ∷ 19 ∷ 20 ∷ 21 ∷ 22 ∷ 23 ∷ 24 ∷ 25 ∷ 26 ∷ 27 ∷ 28 ∷ 29 ∷ 30 ∷ 31 ∷ 32 ∷ 33 ∷ 34 ∷ 35 ∷ 36 ∷ 37 ∷ 38 ∷ 39 ∷ 40 ∷ 41 ∷ 42 ∷ 43 ∷ 44 ∷ 45 ∷ 46 ∷ 47 ∷ 48 ∷ 49 ∷ 50 ∷ 51 ∷ 52 ∷ 53 ∷ 54 ∷ 55 ∷ 56 ∷ 57 ∷ 58 ∷ 59 ∷ 60 ∷ 61 ∷ 62 ∷ 63 ∷ 64 ∷ 65 ∷ 66 ∷ 67 ∷ 68 ∷ 69 ∷ 70 ∷ 71 ∷ 72 ∷ 73 ∷ 74 ∷ 75 ∷ 76 ∷ 77 ∷ 78 ∷ 79 ∷ 80 ∷ 81 ∷ 82 ∷ 83 ∷ 84 ∷ 85 ∷ 86 ∷ 87 ∷ 88 ∷ 89 ∷ 90 ∷ 91 ∷ 92 ∷ 93 ∷ 94 ∷ 95 ∷ 96 ∷ 97 ∷ 98 ∷ 99 ∷ 100 ∷ 101 ∷ 102 ∷ 103 ∷ 104 ∷ 105 ∷ 106 ∷ 107 ∷ 108 ∷ 109 ∷ 110 ∷ 111 ∷ 112 ∷ 113 ∷ 114 ∷ 115 ∷ 116 ∷ 117 ∷ 118 ∷ 119 ∷ 120 ∷ 121 ∷ 122 ∷ []) $ carried-slot x (change-is x _ is) (d h sixteen (ap (rowAt (h .rows)) p) ∙ e) (ws .1 .1 .0) (z₁ h (ap (rowAt (h .rows)) p) ∙ z) l)))))))
 
         -- the row is read
-        reading-slot : {y2 y19 y48 : Val} (r : Ruling) → Is Ruling-row.the-row r (LL.val Ruling-row.the-type Ruling-row′.the-laws r ∷ []) → ruled h [] r ≡ doneOf (stepOf h (stepFor call (bytesIn f) room)) → roomSent (h .rows) room (r .verdict) ≡ roomFor h call room → (i : ℕ) → i ≡ rowOf (r .verdict) → Sq W (‵ (fobs γ (T.the-row .coded .code h)) ∷ ‵ (fbor κ (Body (mem T.the-row) b o γ)) ∷ ‵ (flft κ q) ∷ ‵ Room′ ∷ ‵ (flft κ-room q-room) ∷ ‵ (froom Answer-row′.mir l0 0) ∷ ‵ (fat fullShare (tyRef (named 0) mut rec-ty) l1 0 (vptr b o)) ∷ ‵ (fat fullShare Call-row′.mir l2 0 y2) ∷ ‵ (fat fullShare Frame-row′.mir l3 0 (LL.val Frame-row.the-type Frame-row′.the-laws f)) ∷ ‵ (fat fullShare (sliceTy (tyRef (named 1) mut (tyInt w8))) l4 0 s-room) ∷ ‵ (froom out-ty l5 0) ∷ ‵ (froom (tyInt w8) l6 0) ∷ ‵ (froom Control-row′.mir l7 0) ∷ ‵ (froom (tyInt w64) l8 0) ∷ ‵ (froom Row′.mir l9 0) ∷ ‵ (froom (tyInt w8) l10 0) ∷ ‵ (froom (tyInt w8) l11 0) ∷ ‵ (froom Control-row′.mir l12 0) ∷ ‵ (froom (tyInt w64) l13 0) ∷ ‵ (froom Row′.mir l14 0) ∷ ‵ (froom out-ty l15 0) ∷ ‵ (froom Sync-row′.mir l16 0) ∷ ‵ (froom out-ty l17 0) ∷ ‵ (froom out-ty l18 0) ∷ ‵ (fat fullShare (tyInt w8) l19 0 y19) ∷ ‵ (fat fullShare Ruling-row′.mir l20 0 (LL.val Ruling-row.the-type Ruling-row′.the-laws r)) ∷ ‵ (fat fullShare (tyInt w64) l21 0 (vint w64 i)) ∷ ‵ (froom Row′.mir l22 0) ∷ ‵ (froom out-ty l23 0) ∷ ‵ (froom tyBool l24 0) ∷ ‵ (froom Ruling-row′.mir l25 0) ∷ ‵ (froom (tyInt w64) l26 0) ∷ ‵ (froom Row′.mir l27 0) ∷ ‵ (froom out-ty l28 0) ∷ ‵ (froom Fault-row′.mir l29 0) ∷ ‵ (froom out-ty l30 0) ∷ ‵ (froom out-ty l31 0) ∷ ‵ (froom Answer-row′.mir l32 0) ∷ ‵ (froom T′.mir l33 0) ∷ ‵ (froom (tyRef erased mut rec-ty) l34 0) ∷ ‵ (froom (tyInt w64) l35 0) ∷ ‵ (froom tyPtr l36 0) ∷ ‵ (froom tyPtr l37 0) ∷ ‵ (froom Row′.mir l38 0) ∷ ‵ (froom (tyInt w64) l39 0) ∷ ‵ (froom tyPtr l40 0) ∷ ‵ (froom tyPtr l41 0) ∷ ‵ (froom Row′.mir l42 0) ∷ ‵ (froom (tyRef erased mut rec-ty) l43 0) ∷ ‵ (froom T′.mir l44 0) ∷ ‵ (froom (tyRef erased mut rec-ty) l45 0) ∷ ‵ (froom T′.mir l46 0) ∷ ‵ (froom (tyRef erased mut rec-ty) l47 0) ∷ ‵ (fat fullShare T′.mir l48 0 y48) ∷ ‵ (froom (tyInt w64) l49 0) ∷ ‵ (froom tyPtr l50 0) ∷ ‵ (froom tyPtr l51 0) ∷ ‵ (froom Row′.mir l52 0) ∷ ‵ (froom (tyRef erased mut (tyInt w8)) l53 0) ∷ ‵ (froom (sliceTy (tyRef erased mut (tyInt w8))) l54 0) ∷ ‵ (froom (tyRef erased mut rec-ty) l55 0) ∷ ‵ (froom T′.mir l56 0) ∷ ‵ (froom (tyInt w64) l57 0) ∷ ‵ (froom tyPtr l58 0) ∷ ‵ (froom tyPtr l59 0) ∷ ‵ (froom Row′.mir l60 0) ∷ ‵ (froom (tyRef erased mut rec-ty) l61 0) ∷ ‵ (froom T′.mir l62 0) ∷ ‵ (froom (tyRef erased mut rec-ty) l63 0) ∷ ‵ (froom T′.mir l64 0) ∷ ‵ (froom (tyRef erased mut rec-ty) l65 0) ∷ Dies) (runs C Λ En code-reading-slot (anyQ (Next call)))
+        reading-slot : {y2 y15 y40 : Val} (r : Ruling) → Is Ruling-row.the-row r (LL.val Ruling-row.the-type Ruling-row′.the-laws r ∷ []) → ruled h [] r ≡ doneOf (stepOf h (stepFor call (bytesIn f) room)) → roomSent (h .rows) room (r .verdict) ≡ roomFor h call room → (i : ℕ) → i ≡ rowOf (r .verdict) → Sq W (‵ (fobs γ (T.the-row .coded .code h)) ∷ ‵ (fbor κ (Body (mem T.the-row) b o γ)) ∷ ‵ (flft κ q) ∷ ‵ Room′ ∷ ‵ (flft κ-room q-room) ∷ ‵ (froom Answer-row′.mir l0 0) ∷ ‵ (fat fullShare (tyRef (named 0) mut rec-ty) l1 0 (vptr b o)) ∷ ‵ (fat fullShare Call-row′.mir l2 0 y2) ∷ ‵ (fat fullShare Frame-row′.mir l3 0 (LL.val Frame-row.the-type Frame-row′.the-laws f)) ∷ ‵ (fat fullShare (sliceTy (tyRef (named 1) mut (tyInt w8))) l4 0 s-room) ∷ ‵ (froom out-ty l5 0) ∷ ‵ (froom (tyInt w8) l6 0) ∷ ‵ (froom Control-row′.mir l7 0) ∷ ‵ (froom (tyInt w64) l8 0) ∷ ‵ (froom Row′.mir l9 0) ∷ ‵ (froom (tyInt w8) l10 0) ∷ ‵ (froom (tyInt w8) l11 0) ∷ ‵ (froom Sync-row′.mir l12 0) ∷ ‵ (froom out-ty l13 0) ∷ ‵ (froom out-ty l14 0) ∷ ‵ (fat fullShare (tyInt w8) l15 0 y15) ∷ ‵ (fat fullShare Ruling-row′.mir l16 0 (LL.val Ruling-row.the-type Ruling-row′.the-laws r)) ∷ ‵ (fat fullShare (tyInt w64) l17 0 (vint w64 i)) ∷ ‵ (froom Row′.mir l18 0) ∷ ‵ (froom out-ty l19 0) ∷ ‵ (froom tyBool l20 0) ∷ ‵ (froom Ruling-row′.mir l21 0) ∷ ‵ (froom (tyInt w64) l22 0) ∷ ‵ (froom Row′.mir l23 0) ∷ ‵ (froom out-ty l24 0) ∷ ‵ (froom Fault-row′.mir l25 0) ∷ ‵ (froom out-ty l26 0) ∷ ‵ (froom out-ty l27 0) ∷ ‵ (froom Answer-row′.mir l28 0) ∷ ‵ (froom T′.mir l29 0) ∷ ‵ (froom (tyRef erased mut rec-ty) l30 0) ∷ ‵ (froom (tyInt w64) l31 0) ∷ ‵ (froom tyPtr l32 0) ∷ ‵ (froom tyPtr l33 0) ∷ ‵ (froom Row′.mir l34 0) ∷ ‵ (froom (tyRef erased mut rec-ty) l35 0) ∷ ‵ (froom T′.mir l36 0) ∷ ‵ (froom (tyRef erased mut rec-ty) l37 0) ∷ ‵ (froom T′.mir l38 0) ∷ ‵ (froom (tyRef erased mut rec-ty) l39 0) ∷ ‵ (fat fullShare T′.mir l40 0 y40) ∷ ‵ (froom (tyInt w64) l41 0) ∷ ‵ (froom tyPtr l42 0) ∷ ‵ (froom tyPtr l43 0) ∷ ‵ (froom Row′.mir l44 0) ∷ ‵ (froom (tyRef erased mut (tyInt w8)) l45 0) ∷ ‵ (froom (sliceTy (tyRef erased mut (tyInt w8))) l46 0) ∷ ‵ (froom (tyRef erased mut rec-ty) l47 0) ∷ ‵ (froom T′.mir l48 0) ∷ ‵ (froom (tyInt w64) l49 0) ∷ ‵ (froom tyPtr l50 0) ∷ ‵ (froom tyPtr l51 0) ∷ ‵ (froom Row′.mir l52 0) ∷ ‵ (froom (tyRef erased mut rec-ty) l53 0) ∷ ‵ (froom T′.mir l54 0) ∷ ‵ (froom (tyRef erased mut rec-ty) l55 0) ∷ ‵ (froom T′.mir l56 0) ∷ ‵ (froom (tyRef erased mut rec-ty) l57 0) ∷ Dies) (runs C Λ En code-reading-slot (anyQ (Next call)))
         reading-slot r r-is e z i p =
             opens ! tt T.the-row {h = h} b o (λ vs. spelt ! T.the-row (Is T.the-row) (shows 𝓤 H A T.the-row) (LL.vals T.the-type T′.the-laws) (LL.tells T.the-type T′.the-laws) fullShare h vs b o $
             move ! (1 ∷ []) $ peeks ! T.the-row (Is T.the-row) (shows 𝓤 H A T.the-row) h (mach h ∷ []) (λ was.
-            assigns ! (bin ! (load ! (from ! (stop !)) (look ! 28 refl)) (lit ! tt) (record { fits = byte-fits i (row-below (r .verdict) i p) })) (from ! (stop !)) (init ! 56 refl (tt, record { fits = byte-fits i (row-below (r .verdict) i p) })) $
+            assigns ! (bin ! (load ! (from ! (stop !)) (look ! 24 refl)) (lit ! tt) (record { fits = byte-fits i (row-below (r .verdict) i p) })) (from ! (stop !)) (init ! 48 refl (tt, record { fits = byte-fits i (row-below (r .verdict) i p) })) $
+            assigns ! (addr ! (from ! (hop ! (look ! 8 refl) (fld ! refl (stop !))))) (from ! (stop !)) (init ! 49 refl (tt, tt)) $
+            assigns ! (bin ! (load ! (from ! (stop !)) (look ! 49 refl)) (load ! (from ! (stop !)) (look ! 48 refl)) tt) (from ! (stop !)) (init ! 50 refl (tt, tt)) $
+            rewrite ! 50 (λ (m : ℕ). ‵ (fat fullShare tyPtr l43 0 (vptr b m))) (sym (place-is 14 (o + at-rows) i)) refl $
+            move ! (1 ∷ []) $ use1 W (‵ (fat fullShare T′.mir b o (mach h))) (W .laws .raw-at fullShare T′.mir b o (mach h)) $
+            assigns ! (of-opd ! (load ! (from ! (hop ! (look ! 50 refl) (stop !))) (look-in ! 0 (elem-at ! (values (h .rows)) i (LL.val Row.the-type Row′.the-laws noContents) (LL.val Row.the-type Row′.the-laws (rowAt (h .rows) i)) (value-at (h .rows) i) (in-rows h was i (row-below (r .verdict) i p)) (sixteen-values h was) (sub ! 1 refl (whole !)))))) (from ! (stop !)) (init ! 51 refl (LL.lawful Row.the-type Row′.the-laws 𝓤 H A W .typed (rowAt (h .rows) i) _ (row-is h was i (row-below (r .verdict) i p)) .0)) $
+            use1 W (‵ (cellAt fullShare (T.the-row .mir) (mach h ∷ []) b o)) (W .laws .at-raw fullShare T′.mir b o (mach h)) $
+            closes ! tt T.the-row h (mach h ∷ []) b o $
+            assigns ! (of-opd ! (load ! (from ! (stop !)) (look ! 49 refl))) (from ! (stop !)) (init ! 23 refl (LL.lawful Row.the-type Row′.the-laws 𝓤 H A W .typed (rowAt (h .rows) i) _ (row-is h was i (row-below (r .verdict) i p)) .0)) $
+            making-slot r r-is e z i p (sixteen-rows h was) (row-is h was i (row-below (r .verdict) i p))))
+
+        -- the row to look at
+        finding-slot : {y2 y15 y40 : Val} (r : Ruling) → Is Ruling-row.the-row r (LL.val Ruling-row.the-type Ruling-row′.the-laws r ∷ []) → ruled h [] r ≡ doneOf (stepOf h (stepFor call (bytesIn f) room)) → roomSent (h .rows) room (r .verdict) ≡ roomFor h call room → Sq W (‵ (fobs γ (T.the-row .coded .code h)) ∷ ‵ (fbor κ (Body (mem T.the-row) b o γ)) ∷ ‵ (flft κ q) ∷ ‵ Room′ ∷ ‵ (flft κ-room q-room) ∷ ‵ (froom Answer-row′.mir l0 0) ∷ ‵ (fat fullShare (tyRef (named 0) mut rec-ty) l1 0 (vptr b o)) ∷ ‵ (fat fullShare Call-row′.mir l2 0 y2) ∷ ‵ (fat fullShare Frame-row′.mir l3 0 (LL.val Frame-row.the-type Frame-row′.the-laws f)) ∷ ‵ (fat fullShare (sliceTy (tyRef (named 1) mut (tyInt w8))) l4 0 s-room) ∷ ‵ (froom out-ty l5 0) ∷ ‵ (froom (tyInt w8) l6 0) ∷ ‵ (froom Control-row′.mir l7 0) ∷ ‵ (froom (tyInt w64) l8 0) ∷ ‵ (froom Row′.mir l9 0) ∷ ‵ (froom (tyInt w8) l10 0) ∷ ‵ (froom (tyInt w8) l11 0) ∷ ‵ (froom Sync-row′.mir l12 0) ∷ ‵ (froom out-ty l13 0) ∷ ‵ (froom out-ty l14 0) ∷ ‵ (fat fullShare (tyInt w8) l15 0 y15) ∷ ‵ (fat fullShare Ruling-row′.mir l16 0 (LL.val Ruling-row.the-type Ruling-row′.the-laws r)) ∷ ‵ (froom (tyInt w64) l17 0) ∷ ‵ (froom Row′.mir l18 0) ∷ ‵ (froom out-ty l19 0) ∷ ‵ (froom tyBool l20 0) ∷ ‵ (froom Ruling-row′.mir l21 0) ∷ ‵ (froom (tyInt w64) l22 0) ∷ ‵ (froom Row′.mir l23 0) ∷ ‵ (froom out-ty l24 0) ∷ ‵ (froom Fault-row′.mir l25 0) ∷ ‵ (froom out-ty l26 0) ∷ ‵ (froom out-ty l27 0) ∷ ‵ (froom Answer-row′.mir l28 0) ∷ ‵ (froom T′.mir l29 0) ∷ ‵ (froom (tyRef erased mut rec-ty) l30 0) ∷ ‵ (froom (tyInt w64) l31 0) ∷ ‵ (froom tyPtr l32 0) ∷ ‵ (froom tyPtr l33 0) ∷ ‵ (froom Row′.mir l34 0) ∷ ‵ (froom (tyRef erased mut rec-ty) l35 0) ∷ ‵ (froom T′.mir l36 0) ∷ ‵ (froom (tyRef erased mut rec-ty) l37 0) ∷ ‵ (froom T′.mir l38 0) ∷ ‵ (froom (tyRef erased mut rec-ty) l39 0) ∷ ‵ (fat fullShare T′.mir l40 0 y40) ∷ ‵ (froom (tyInt w64) l41 0) ∷ ‵ (froom tyPtr l42 0) ∷ ‵ (froom tyPtr l43 0) ∷ ‵ (froom Row′.mir l44 0) ∷ ‵ (froom (tyRef erased mut (tyInt w8)) l45 0) ∷ ‵ (froom (sliceTy (tyRef erased mut (tyInt w8))) l46 0) ∷ ‵ (froom (tyRef erased mut rec-ty) l47 0) ∷ ‵ (froom T′.mir l48 0) ∷ ‵ (froom (tyInt w64) l49 0) ∷ ‵ (froom tyPtr l50 0) ∷ ‵ (froom tyPtr l51 0) ∷ ‵ (froom Row′.mir l52 0) ∷ ‵ (froom (tyRef erased mut rec-ty) l53 0) ∷ ‵ (froom T′.mir l54 0) ∷ ‵ (froom (tyRef erased mut rec-ty) l55 0) ∷ ‵ (froom T′.mir l56 0) ∷ ‵ (froom (tyRef erased mut rec-ty) l57 0) ∷ Dies) (runs C Λ En code-finding-slot (anyQ (Next call)))
+        finding-slot r r-is e z =
+            use0 W (raw ((Rows 𝓤 H A at-mem run) .pre (to-rows r))) (asked-rows r r-is) $
+            calls-at ! fm (Rows 𝓤 H A at-mem run) known-rows (to-rows r) (and-then ! (load ! (from ! (stop !)) (look ! 22 refl)) (no-more !)) (λ v.
+            use1 W (later (some (λ (i : ℕ). (‵ ftrue ⊛ ‵ (usize .own i (v ∷ []))) ⊛ raw (ensured 𝓤 H A rows.ended (rows.clauses 𝓤 H A at-mem run) tt (r, tt) tt i)))) (id⊢ 𝓤 _) $ await ! tt $ pick ! (λ i.
+            split ! $ move ! (1 ∷ []) $ use1 W (some (λ (ws : Lasts rows.ended tt (r, tt)). ‵ (lasts rows.ended tt (r, tt) ws) ⊛ raw (fact 𝓤 (i ≡ rowOf (r .verdict))))) (id⊢ 𝓤 _) $ pick ! (λ ws.
+            split ! $ move ! (1 ∷ []) $ heard ! (i ≡ rowOf (r .verdict)) (λ p. drop ! $ split ! $ drop ! $
+            peeks ! usize (Is usize) (shows 𝓤 H A usize) i (v ∷ []) (λ is. drop ! $
+            land ! (from ! (stop !)) (init ! 22 refl (uint-lawful 𝓤 H A W w64 .typed i _ is .0)) $ rewrite ! 22 (λ (u : Val). ‵ (fat fullShare (tyInt w64) l17 0 u)) (ap only (is .0)) refl $
+            reading-slot r r-is e z i p)))))
+
+        -- Slot
+        on-slot : {y2 : Val} (n : ℕ) → n < 2 ^ 8 → slot n room ≡ stepFor call (bytesIn f) room → stepOf h (slot n room) .room ≡ roomFor h call room → Sq W (‵ Rec ∷ ‵ (flft κ q) ∷ ‵ Room′ ∷ ‵ (flft κ-room q-room) ∷ ‵ (froom Answer-row′.mir l0 0) ∷ ‵ (fat fullShare (tyRef (named 0) mut rec-ty) l1 0 (vptr b o)) ∷ ‵ (fat fullShare Call-row′.mir l2 0 y2) ∷ ‵ (fat fullShare Frame-row′.mir l3 0 (LL.val Frame-row.the-type Frame-row′.the-laws f)) ∷ ‵ (fat fullShare (sliceTy (tyRef (named 1) mut (tyInt w8))) l4 0 s-room) ∷ ‵ (froom out-ty l5 0) ∷ ‵ (froom (tyInt w8) l6 0) ∷ ‵ (froom Control-row′.mir l7 0) ∷ ‵ (froom (tyInt w64) l8 0) ∷ ‵ (froom Row′.mir l9 0) ∷ ‵ (froom (tyInt w8) l10 0) ∷ ‵ (froom (tyInt w8) l11 0) ∷ ‵ (froom Sync-row′.mir l12 0) ∷ ‵ (froom out-ty l13 0) ∷ ‵ (froom out-ty l14 0) ∷ ‵ (fat fullShare (tyInt w8) l15 0 (vint w8 n)) ∷ ‵ (froom Ruling-row′.mir l16 0) ∷ ‵ (froom (tyInt w64) l17 0) ∷ ‵ (froom Row′.mir l18 0) ∷ ‵ (froom out-ty l19 0) ∷ ‵ (froom tyBool l20 0) ∷ ‵ (froom Ruling-row′.mir l21 0) ∷ ‵ (froom (tyInt w64) l22 0) ∷ ‵ (froom Row′.mir l23 0) ∷ ‵ (froom out-ty l24 0) ∷ ‵ (froom Fault-row′.mir l25 0) ∷ ‵ (froom out-ty l26 0) ∷ ‵ (froom out-ty l27 0) ∷ ‵ (froom Answer-row′.mir l28 0) ∷ ‵ (froom T′.mir l29 0) ∷ ‵ (froom (tyRef erased mut rec-ty) l30 0) ∷ ‵ (froom (tyInt w64) l31 0) ∷ ‵ (froom tyPtr l32 0) ∷ ‵ (froom tyPtr l33 0) ∷ ‵ (froom Row′.mir l34 0) ∷ ‵ (froom (tyRef erased mut rec-ty) l35 0) ∷ ‵ (froom T′.mir l36 0) ∷ ‵ (froom (tyRef erased mut rec-ty) l37 0) ∷ ‵ (froom T′.mir l38 0) ∷ ‵ (froom (tyRef erased mut rec-ty) l39 0) ∷ ‵ (froom T′.mir l40 0) ∷ ‵ (froom (tyInt w64) l41 0) ∷ ‵ (froom tyPtr l42 0) ∷ ‵ (froom tyPtr l43 0) ∷ ‵ (froom Row′.mir l44 0) ∷ ‵ (froom (tyRef erased mut (tyInt w8)) l45 0) ∷ ‵ (froom (sliceTy (tyRef erased mut (tyInt w8))) l46 0) ∷ ‵ (froom (tyRef erased mut rec-ty) l47 0) ∷ ‵ (froom T′.mir l48 0) ∷ ‵ (froom (tyInt w64) l49 0) ∷ ‵ (froom tyPtr l50 0) ∷ ‵ (froom tyPtr l51 0) ∷ ‵ (froom Row′.mir l52 0) ∷ ‵ (froom (tyRef erased mut rec-ty) l53 0) ∷ ‵ (froom T′.mir l54 0) ∷ ‵ (froom (tyRef erased mut rec-ty) l55 0) ∷ ‵ (froom T′.mir l56 0) ∷ ‵ (froom (tyRef erased mut rec-ty) l57 0) ∷ Dies) (runs C Λ En code-slot (anyQ (Next call)))
+        on-slot n n-fits s z =
+            fsplit3 ! $ drop ! $
+            opens ! tt T.the-row {h = h} b o (λ vs. spelt ! T.the-row (Is T.the-row) (shows 𝓤 H A T.the-row) (LL.vals T.the-type T′.the-laws) (LL.tells T.the-type T′.the-laws) fullShare h vs b o $
+            move ! (1 ∷ []) $ peeks ! T.the-row (Is T.the-row) (shows 𝓤 H A T.the-row) h (mach h ∷ []) (λ was.
+            assigns ! (of-opd ! (load ! (from ! (hop ! (look ! 8 refl) (stop !))) (look-raw ! 1 refl))) (from ! (stop !)) (init ! 47 refl (LL.lawful T.the-type T′.the-laws 𝓤 H A W .typed h _ was .0)) $
+            move ! (1 ∷ 0 ∷ 2 ∷ 3 ∷ 4 ∷ []) $ closes ! tt T.the-row h (mach h ∷ []) b o $
+            assigns ! (of-opd ! (load ! (from ! (fld ! refl (stop !))) (look-in ! 9 (sub ! 1 refl (whole !))))) (from ! (stop !)) (init ! 46 refl (tt, record { fits = room-room .0 })) $
+            use0 W (raw ((Slots 𝓤 H A at-mem run) .pre (to-slot n))) (asked-slot n n-fits was) $
+            calls-at ! fm (Slots 𝓤 H A at-mem run) known-slots (to-slot n) (and-then ! (load ! (from ! (stop !)) (look ! 46 refl)) (and-then ! (load ! (from ! (stop !)) (look ! 21 refl)) (and-then ! (load ! (from ! (stop !)) (look ! 47 refl)) (no-more !)))) (λ v.
+            use1 W (later (some (λ (r : Ruling). (‵ ftrue ⊛ ‵ (Ruling-row.the-row .own r (v ∷ []))) ⊛ raw (ensured 𝓤 H A slots.ended (slots.clauses 𝓤 H A at-mem run) tt (args-slot n) tt r)))) (id⊢ 𝓤 _) $ await ! tt $ pick ! (λ r.
+            split ! $ move ! (1 ∷ []) $ use1 W (some (λ (ws : Lasts slots.ended tt (args-slot n)). ‵ (lasts slots.ended tt (args-slot n) ws) ⊛ raw (fact 𝓤 ((zs : List ℕ) → length zs ≡ length room → ruled h [] r ≡ doneOf (stepOf h (slot n zs)))) ⊛ raw (fact 𝓤 ((zs : List ℕ) → length zs ≡ length room → roomSent (h .rows) zs (r .verdict) ≡ stepOf h (slot n zs) .room)))) (id⊢ 𝓤 _) $ pick ! (λ ws.
+            split ! $ move ! (1 ∷ []) $ split ! $ heard ! ((zs : List ℕ) → length zs ≡ length room → ruled h [] r ≡ doneOf (stepOf h (slot n zs))) (λ e. heard ! ((zs : List ℕ) → length zs ≡ length room → roomSent (h .rows) zs (r .verdict) ≡ stepOf h (slot n zs) .room) (λ z₁. drop ! $ split ! $ drop ! $
+            peeks ! Ruling-row.the-row (Is Ruling-row.the-row) (shows 𝓤 H A Ruling-row.the-row) r (v ∷ []) (λ is. drop ! $
+            land ! (from ! (stop !)) (init ! 21 refl (LL.lawful Ruling-row.the-type Ruling-row′.the-laws 𝓤 H A W .typed r _ is .0)) $ rewrite ! 21 (λ (u : Val). ‵ (fat fullShare Ruling-row′.mir l16 0 u)) (ap only (LL.tells Ruling-row.the-type Ruling-row′.the-laws r _ is)) refl $
+            forget ! 46 refl $ finding-slot r (ruling-is r _ is) (e room refl ∙ ap (λ (s : Step). doneOf (stepOf h s)) s) (z₁ room refl ∙ z)))))))))
+
+        -- what `Frame` changes is carried out
+        carried-ruling : {y2 y20 y48 y21 y22 y23 y49 y50 y51 y52 : Val} (x : Change) → Is S.the-row x (LL.val S.the-type S′.the-laws x ∷ []) → changed h x ≡ doneOf (stepOf h (stepFor call (bytesIn f) room)) → (zs : List ℕ) → zs ≡ roomFor h call room → length zs ≡ length room → Sq W (‵ (fobs γ (T.the-row .coded .code h)) ∷ ‵ (fbor κ (Body (mem T.the-row) b o γ)) ∷ ‵ (flft κ q) ∷ ‵ (flft κ-room q-room) ∷ ‵ (finally u8 γ-room zs) ∷ ‵ (froom Answer-row′.mir l0 0) ∷ ‵ (fat fullShare (tyRef (named 0) mut rec-ty) l1 0 (vptr b o)) ∷ ‵ (fat fullShare Call-row′.mir l2 0 y2) ∷ ‵ (fat fullShare Frame-row′.mir l3 0 (LL.val Frame-row.the-type Frame-row′.the-laws f)) ∷ ‵ (fat fullShare (sliceTy (tyRef (named 1) mut (tyInt w8))) l4 0 s-room) ∷ ‵ (froom out-ty l5 0) ∷ ‵ (froom (tyInt w8) l6 0) ∷ ‵ (froom Control-row′.mir l7 0) ∷ ‵ (froom (tyInt w64) l8 0) ∷ ‵ (froom Row′.mir l9 0) ∷ ‵ (froom (tyInt w8) l10 0) ∷ ‵ (froom (tyInt w8) l11 0) ∷ ‵ (froom Sync-row′.mir l12 0) ∷ ‵ (froom out-ty l13 0) ∷ ‵ (froom out-ty l14 0) ∷ ‵ (froom (tyInt w8) l15 0) ∷ ‵ (froom Ruling-row′.mir l16 0) ∷ ‵ (froom (tyInt w64) l17 0) ∷ ‵ (froom Row′.mir l18 0) ∷ ‵ (froom out-ty l19 0) ∷ ‵ (fat fullShare tyBool l20 0 y20) ∷ ‵ (fat fullShare Ruling-row′.mir l21 0 y21) ∷ ‵ (fat fullShare (tyInt w64) l22 0 y22) ∷ ‵ (fat fullShare Row′.mir l23 0 y23) ∷ ‵ (fat fullShare out-ty l24 0 (LL.val S.the-type S′.the-laws x)) ∷ ‵ (froom Fault-row′.mir l25 0) ∷ ‵ (froom out-ty l26 0) ∷ ‵ (froom out-ty l27 0) ∷ ‵ (froom Answer-row′.mir l28 0) ∷ ‵ (froom T′.mir l29 0) ∷ ‵ (froom (tyRef erased mut rec-ty) l30 0) ∷ ‵ (froom (tyInt w64) l31 0) ∷ ‵ (froom tyPtr l32 0) ∷ ‵ (froom tyPtr l33 0) ∷ ‵ (froom Row′.mir l34 0) ∷ ‵ (froom (tyRef erased mut rec-ty) l35 0) ∷ ‵ (froom T′.mir l36 0) ∷ ‵ (froom (tyRef erased mut rec-ty) l37 0) ∷ ‵ (froom T′.mir l38 0) ∷ ‵ (froom (tyRef erased mut rec-ty) l39 0) ∷ ‵ (froom T′.mir l40 0) ∷ ‵ (froom (tyInt w64) l41 0) ∷ ‵ (froom tyPtr l42 0) ∷ ‵ (froom tyPtr l43 0) ∷ ‵ (froom Row′.mir l44 0) ∷ ‵ (froom (tyRef erased mut (tyInt w8)) l45 0) ∷ ‵ (froom (sliceTy (tyRef erased mut (tyInt w8))) l46 0) ∷ ‵ (froom (tyRef erased mut rec-ty) l47 0) ∷ ‵ (fat fullShare T′.mir l48 0 y48) ∷ ‵ (fat fullShare (tyInt w64) l49 0 y49) ∷ ‵ (fat fullShare tyPtr l50 0 y50) ∷ ‵ (fat fullShare tyPtr l51 0 y51) ∷ ‵ (fat fullShare Row′.mir l52 0 y52) ∷ ‵ (froom (tyRef erased mut rec-ty) l53 0) ∷ ‵ (froom T′.mir l54 0) ∷ ‵ (froom (tyRef erased mut rec-ty) l55 0) ∷ ‵ (froom T′.mir l56 0) ∷ ‵ (froom (tyRef erased mut rec-ty) l57 0) ∷ Dies) (runs C Λ En (carrying 53 24) (anyQ (Next call)))
+        carried-ruling x x-is e zs z l =
+            assigns ! (addr ! (from ! (hop ! (look ! 6 refl) (stop !)))) (from ! (stop !)) (init ! 58 refl (tt, tt)) $
+            group ! 3 $ use1 W (raw ((Carries 𝓤 H A at-mem run) .pre (to-carry x))) (asked-carry x x-is) $
+            calls-at-last ! fm (Carries 𝓤 H A at-mem run) known-carries (to-carry x) (and-then ! (load ! (from ! (stop !)) (look ! 56 refl)) (and-then ! (load ! (from ! (stop !)) (look ! 27 refl)) (no-more !))) (λ v.
+            use1 W (later (some (λ (m : Answer). ((‵ (flft κ q) ⊛ ‵ ftrue) ⊛ ‵ (Answer-row.the-row .own m (v ∷ []))) ⊛ raw (ensured 𝓤 H A carries.ended (carries.clauses 𝓤 H A at-mem run) (κ, tt) (args-carry x) tt m)))) (id⊢ 𝓤 _) $ await ! tt $ pick ! (λ m.
+            split ! $ move ! (1 ∷ []) $ use1 W (some (λ (ws : Lasts carries.ended (κ, tt) (args-carry x)). ‵ (lasts carries.ended (κ, tt) (args-carry x) ws) ⊛ raw (fact 𝓤 ((ws .0 ≡ changed h x .next) × (m ≡ x .answer))))) (id⊢ 𝓤 _) $ pick ! (λ ws.
+            split ! $ move ! (1 ∷ []) $ heard ! ((ws .0 ≡ changed h x .next) × (m ≡ x .answer)) (λ d. fsplit ! $
+            move ! (2 ∷ []) $ split ! $ move ! (1 ∷ []) $ peeks ! Answer-row.the-row (Is Answer-row.the-row) (shows 𝓤 H A Answer-row.the-row) m (v ∷ []) (λ is. drop ! $ split ! $
+            land-last ! (from ! (stop !)) (init ! 34 refl (EL.lawful Answer-row.the-type Answer-row′.the-laws 𝓤 H A W tt .typed m _ is .0)) $ rewrite ! 34 (λ (u : Val). ‵ (fat fullShare Answer-row′.mir l28 0 u)) (ap only (EL.tells Answer-row.the-type Answer-row′.the-laws m _ is)) refl $
+            exec ! C Λ En pieces.t-2 (atRet En (Post call)) $ forget ! 26 refl $ forget ! 27 refl $ forget ! 28 refl $ forget ! 29 refl $ forget ! 30 refl $ forget ! 54 refl $ forget ! 55 refl $ forget ! 56 refl $ forget ! 57 refl $ forget ! 58 refl $ forget ! 59 refl $
+            keep ! (2 ∷ 0 ∷ 4 ∷ 5 ∷ 6 ∷ 7 ∷ 8 ∷ 9 ∷ 10 ∷ 11 ∷ 12 ∷ 13 ∷ 14 ∷ 15 ∷ 16 ∷ 17 ∷ 18 ∷ 19 ∷ 20 ∷ 21 ∷ 22 ∷ 23 ∷ 24 ∷ 25 ∷ 26 ∷ 27 ∷ 28 ∷ 29 ∷ 30 ∷ 31 ∷ 32 ∷ 33 ∷ 34 ∷ 35 ∷ 36 ∷ 37 ∷ 38 ∷ 39 ∷ 40 ∷ 41 ∷ 42 ∷ 43 ∷ 44 ∷ 45 ∷ 46 ∷ 47 ∷ 48 ∷ 49 ∷ 50 ∷ 51 ∷ 52 ∷ 53 ∷ 54 ∷ 55 ∷ 56 ∷ 57 ∷ 58 ∷ 59 ∷ 60 ∷ 61 ∷ 62 ∷ 63 ∷ 64 ∷ 65 ∷ 66 ∷ 67 ∷ 68 ∷ 69 ∷ 70 ∷ 71 ∷ 72 ∷ 73 ∷ 74 ∷ 75 ∷ 76 ∷ 77 ∷ 78 ∷ 79 ∷ 80 ∷ 81 ∷ 82 ∷ 83 ∷ 84 ∷ 85 ∷ 86 ∷ 87 ∷ 88 ∷ 89 ∷ 90 ∷ 91 ∷ 92 ∷ 93 ∷ 94 ∷ 95 ∷ 96 ∷ 97 ∷ 98 ∷ 99 ∷ 100 ∷ 101 ∷ 102 ∷ 103 ∷ 104 ∷ 105 ∷ 106 ∷ 107 ∷ 108 ∷ 109 ∷ 110 ∷ 111 ∷ 112 ∷ 113 ∷ 114 ∷ 115 ∷ 116 ∷ 117 ∷ 118 ∷ 119 ∷ 120 ∷ 121 ∷ []) $ answered (ws .0) m zs (d .0 ∙ ap (λ (u : Done). u .next) e, d .1 ∙ ap (λ (u : Done). u .answer) e, z) (answer-is m _ is) l)))))
+
+        -- what is made of the row
+        making-ruling : {y2 y20 y48 y22 y49 y50 y51 y52 : Val} (r : Ruling) → Is Ruling-row.the-row r (LL.val Ruling-row.the-type Ruling-row′.the-laws r ∷ []) → ruled h (bytesIn f) r ≡ doneOf (stepOf h (stepFor call (bytesIn f) room)) → room ≡ roomFor h call room → (i : ℕ) → i ≡ rowOf (r .verdict) → length (h .rows) ≡ 16 → Is Row.the-row (rowAt (h .rows) i) (LL.val Row.the-type Row′.the-laws (rowAt (h .rows) i) ∷ []) → Sq W (‵ (fobs γ (T.the-row .coded .code h)) ∷ ‵ (fbor κ (Body (mem T.the-row) b o γ)) ∷ ‵ (flft κ q) ∷ ‵ (flft κ-room q-room) ∷ ‵ (finally u8 γ-room room) ∷ ‵ (froom Answer-row′.mir l0 0) ∷ ‵ (fat fullShare (tyRef (named 0) mut rec-ty) l1 0 (vptr b o)) ∷ ‵ (fat fullShare Call-row′.mir l2 0 y2) ∷ ‵ (fat fullShare Frame-row′.mir l3 0 (LL.val Frame-row.the-type Frame-row′.the-laws f)) ∷ ‵ (fat fullShare (sliceTy (tyRef (named 1) mut (tyInt w8))) l4 0 s-room) ∷ ‵ (froom out-ty l5 0) ∷ ‵ (froom (tyInt w8) l6 0) ∷ ‵ (froom Control-row′.mir l7 0) ∷ ‵ (froom (tyInt w64) l8 0) ∷ ‵ (froom Row′.mir l9 0) ∷ ‵ (froom (tyInt w8) l10 0) ∷ ‵ (froom (tyInt w8) l11 0) ∷ ‵ (froom Sync-row′.mir l12 0) ∷ ‵ (froom out-ty l13 0) ∷ ‵ (froom out-ty l14 0) ∷ ‵ (froom (tyInt w8) l15 0) ∷ ‵ (froom Ruling-row′.mir l16 0) ∷ ‵ (froom (tyInt w64) l17 0) ∷ ‵ (froom Row′.mir l18 0) ∷ ‵ (froom out-ty l19 0) ∷ ‵ (fat fullShare tyBool l20 0 y20) ∷ ‵ (fat fullShare Ruling-row′.mir l21 0 (LL.val Ruling-row.the-type Ruling-row′.the-laws r)) ∷ ‵ (fat fullShare (tyInt w64) l22 0 y22) ∷ ‵ (fat fullShare Row′.mir l23 0 (LL.val Row.the-type Row′.the-laws (rowAt (h .rows) i))) ∷ ‵ (froom out-ty l24 0) ∷ ‵ (froom Fault-row′.mir l25 0) ∷ ‵ (froom out-ty l26 0) ∷ ‵ (froom out-ty l27 0) ∷ ‵ (froom Answer-row′.mir l28 0) ∷ ‵ (froom T′.mir l29 0) ∷ ‵ (froom (tyRef erased mut rec-ty) l30 0) ∷ ‵ (froom (tyInt w64) l31 0) ∷ ‵ (froom tyPtr l32 0) ∷ ‵ (froom tyPtr l33 0) ∷ ‵ (froom Row′.mir l34 0) ∷ ‵ (froom (tyRef erased mut rec-ty) l35 0) ∷ ‵ (froom T′.mir l36 0) ∷ ‵ (froom (tyRef erased mut rec-ty) l37 0) ∷ ‵ (froom T′.mir l38 0) ∷ ‵ (froom (tyRef erased mut rec-ty) l39 0) ∷ ‵ (froom T′.mir l40 0) ∷ ‵ (froom (tyInt w64) l41 0) ∷ ‵ (froom tyPtr l42 0) ∷ ‵ (froom tyPtr l43 0) ∷ ‵ (froom Row′.mir l44 0) ∷ ‵ (froom (tyRef erased mut (tyInt w8)) l45 0) ∷ ‵ (froom (sliceTy (tyRef erased mut (tyInt w8))) l46 0) ∷ ‵ (froom (tyRef erased mut rec-ty) l47 0) ∷ ‵ (fat fullShare T′.mir l48 0 y48) ∷ ‵ (fat fullShare (tyInt w64) l49 0 y49) ∷ ‵ (fat fullShare tyPtr l50 0 y50) ∷ ‵ (fat fullShare tyPtr l51 0 y51) ∷ ‵ (fat fullShare Row′.mir l52 0 y52) ∷ ‵ (froom (tyRef erased mut rec-ty) l53 0) ∷ ‵ (froom T′.mir l54 0) ∷ ‵ (froom (tyRef erased mut rec-ty) l55 0) ∷ ‵ (froom T′.mir l56 0) ∷ ‵ (froom (tyRef erased mut rec-ty) l57 0) ∷ Dies) (runs C Λ En code-making-ruling (anyQ (Next call)))
+        making-ruling r r-is e z i p sixteen k-is =
+            use0 W (raw ((Frameds 𝓤 H A at-mem run) .pre (to-framed r (rowAt (h .rows) i)))) (asked-framed r (rowAt (h .rows) i) r-is k-is) $
+            calls-at ! fm (Frameds 𝓤 H A at-mem run) known-frameds (to-framed r (rowAt (h .rows) i)) (and-then ! (load ! (from ! (stop !)) (look ! 27 refl)) (and-then ! (load ! (from ! (stop !)) (look ! 29 refl)) (and-then ! (load ! (from ! (stop !)) (look ! 9 refl)) (no-more !)))) (λ v.
+            use1 W (later (some (λ (x : Change). (‵ ftrue ⊛ ‵ (S.the-row .own x (v ∷ []))) ⊛ raw (ensured 𝓤 H A frameds.ended (frameds.clauses 𝓤 H A at-mem run) tt (args-framed r (rowAt (h .rows) i)) tt x)))) (id⊢ 𝓤 _) $ await ! tt $ pick ! (λ x.
+            split ! $ move ! (1 ∷ []) $ use1 W (some (λ (ws : Lasts frameds.ended tt (args-framed r (rowAt (h .rows) i))). ‵ (lasts frameds.ended tt (args-framed r (rowAt (h .rows) i)) ws) ⊛ raw (fact 𝓤 ((c : Controller) → length (c .rows) ≡ 16 → rowAt (h .rows) i ≡ rowAt (c .rows) (rowOf (r .verdict)) → changed c x ≡ ruled c (bytesIn f) r)))) (id⊢ 𝓤 _) $ pick ! (λ ws.
+            split ! $ move ! (1 ∷ []) $ heard ! ((c : Controller) → length (c .rows) ≡ 16 → rowAt (h .rows) i ≡ rowAt (c .rows) (rowOf (r .verdict)) → changed c x ≡ ruled c (bytesIn f) r) (λ d. drop ! $ split ! $ drop ! $
+            peeks ! S.the-row (Is S.the-row) (shows 𝓤 H A S.the-row) x (v ∷ []) (λ is. drop ! $
+            land ! (from ! (stop !)) (init ! 29 refl (LL.lawful S.the-type S′.the-laws 𝓤 H A W .typed x _ is .0)) $ rewrite ! 29 (λ (u : Val). ‵ (fat fullShare out-ty l24 0 u)) (ap only (LL.tells S.the-type S′.the-laws x _ is)) refl $
+            carried-ruling x (change-is x _ is) (d h sixteen (ap (rowAt (h .rows)) p) ∙ e) room z refl)))))
+
+        -- the row is read
+        reading-ruling : {y2 y20 y48 : Val} (r : Ruling) → Is Ruling-row.the-row r (LL.val Ruling-row.the-type Ruling-row′.the-laws r ∷ []) → ruled h (bytesIn f) r ≡ doneOf (stepOf h (stepFor call (bytesIn f) room)) → room ≡ roomFor h call room → (i : ℕ) → i ≡ rowOf (r .verdict) → Sq W (‵ (fobs γ (T.the-row .coded .code h)) ∷ ‵ (fbor κ (Body (mem T.the-row) b o γ)) ∷ ‵ (flft κ q) ∷ ‵ (flft κ-room q-room) ∷ ‵ (finally u8 γ-room room) ∷ ‵ (froom Answer-row′.mir l0 0) ∷ ‵ (fat fullShare (tyRef (named 0) mut rec-ty) l1 0 (vptr b o)) ∷ ‵ (fat fullShare Call-row′.mir l2 0 y2) ∷ ‵ (fat fullShare Frame-row′.mir l3 0 (LL.val Frame-row.the-type Frame-row′.the-laws f)) ∷ ‵ (fat fullShare (sliceTy (tyRef (named 1) mut (tyInt w8))) l4 0 s-room) ∷ ‵ (froom out-ty l5 0) ∷ ‵ (froom (tyInt w8) l6 0) ∷ ‵ (froom Control-row′.mir l7 0) ∷ ‵ (froom (tyInt w64) l8 0) ∷ ‵ (froom Row′.mir l9 0) ∷ ‵ (froom (tyInt w8) l10 0) ∷ ‵ (froom (tyInt w8) l11 0) ∷ ‵ (froom Sync-row′.mir l12 0) ∷ ‵ (froom out-ty l13 0) ∷ ‵ (froom out-ty l14 0) ∷ ‵ (froom (tyInt w8) l15 0) ∷ ‵ (froom Ruling-row′.mir l16 0) ∷ ‵ (froom (tyInt w64) l17 0) ∷ ‵ (froom Row′.mir l18 0) ∷ ‵ (froom out-ty l19 0) ∷ ‵ (fat fullShare tyBool l20 0 y20) ∷ ‵ (fat fullShare Ruling-row′.mir l21 0 (LL.val Ruling-row.the-type Ruling-row′.the-laws r)) ∷ ‵ (fat fullShare (tyInt w64) l22 0 (vint w64 i)) ∷ ‵ (froom Row′.mir l23 0) ∷ ‵ (froom out-ty l24 0) ∷ ‵ (froom Fault-row′.mir l25 0) ∷ ‵ (froom out-ty l26 0) ∷ ‵ (froom out-ty l27 0) ∷ ‵ (froom Answer-row′.mir l28 0) ∷ ‵ (froom T′.mir l29 0) ∷ ‵ (froom (tyRef erased mut rec-ty) l30 0) ∷ ‵ (froom (tyInt w64) l31 0) ∷ ‵ (froom tyPtr l32 0) ∷ ‵ (froom tyPtr l33 0) ∷ ‵ (froom Row′.mir l34 0) ∷ ‵ (froom (tyRef erased mut rec-ty) l35 0) ∷ ‵ (froom T′.mir l36 0) ∷ ‵ (froom (tyRef erased mut rec-ty) l37 0) ∷ ‵ (froom T′.mir l38 0) ∷ ‵ (froom (tyRef erased mut rec-ty) l39 0) ∷ ‵ (froom T′.mir l40 0) ∷ ‵ (froom (tyInt w64) l41 0) ∷ ‵ (froom tyPtr l42 0) ∷ ‵ (froom tyPtr l43 0) ∷ ‵ (froom Row′.mir l44 0) ∷ ‵ (froom (tyRef erased mut (tyInt w8)) l45 0) ∷ ‵ (froom (sliceTy (tyRef erased mut (tyInt w8))) l46 0) ∷ ‵ (froom (tyRef erased mut rec-ty) l47 0) ∷ ‵ (fat fullShare T′.mir l48 0 y48) ∷ ‵ (froom (tyInt w64) l49 0) ∷ ‵ (froom tyPtr l50 0) ∷ ‵ (froom tyPtr l51 0) ∷ ‵ (froom Row′.mir l52 0) ∷ ‵ (froom (tyRef erased mut rec-ty) l53 0) ∷ ‵ (froom T′.mir l54 0) ∷ ‵ (froom (tyRef erased mut rec-ty) l55 0) ∷ ‵ (froom T′.mir l56 0) ∷ ‵ (froom (tyRef erased mut rec-ty) l57 0) ∷ Dies) (runs C Λ En code-reading-ruling (anyQ (Next call)))
+        reading-ruling r r-is e z i p =
+            opens ! tt T.the-row {h = h} b o (λ vs. spelt ! T.the-row (Is T.the-row) (shows 𝓤 H A T.the-row) (LL.vals T.the-type T′.the-laws) (LL.tells T.the-type T′.the-laws) fullShare h vs b o $
+            move ! (1 ∷ []) $ peeks ! T.the-row (Is T.the-row) (shows 𝓤 H A T.the-row) h (mach h ∷ []) (λ was.
+            assigns ! (bin ! (load ! (from ! (stop !)) (look ! 29 refl)) (lit ! tt) (record { fits = byte-fits i (row-below (r .verdict) i p) })) (from ! (stop !)) (init ! 56 refl (tt, record { fits = byte-fits i (row-below (r .verdict) i p) })) $
             assigns ! (addr ! (from ! (hop ! (look ! 8 refl) (fld ! refl (stop !))))) (from ! (stop !)) (init ! 57 refl (tt, tt)) $
             assigns ! (bin ! (load ! (from ! (stop !)) (look ! 57 refl)) (load ! (from ! (stop !)) (look ! 56 refl)) tt) (from ! (stop !)) (init ! 58 refl (tt, tt)) $
             rewrite ! 58 (λ (m : ℕ). ‵ (fat fullShare tyPtr l51 0 (vptr b m))) (sym (place-is 14 (o + at-rows) i)) refl $
@@ -780,96 +791,90 @@ module _ {M : Type 1} (𝓤 : URA M) (H : Heap 𝓤) (A : Atoms 𝓤) (W : Given
             assigns ! (of-opd ! (load ! (from ! (hop ! (look ! 58 refl) (stop !))) (look-in ! 0 (elem-at ! (values (h .rows)) i (LL.val Row.the-type Row′.the-laws noContents) (LL.val Row.the-type Row′.the-laws (rowAt (h .rows) i)) (value-at (h .rows) i) (in-rows h was i (row-below (r .verdict) i p)) (sixteen-values h was) (sub ! 1 refl (whole !)))))) (from ! (stop !)) (init ! 59 refl (LL.lawful Row.the-type Row′.the-laws 𝓤 H A W .typed (rowAt (h .rows) i) _ (row-is h was i (row-below (r .verdict) i p)) .0)) $
             use1 W (‵ (cellAt fullShare (T.the-row .mir) (mach h ∷ []) b o)) (W .laws .at-raw fullShare T′.mir b o (mach h)) $
             closes ! tt T.the-row h (mach h ∷ []) b o $
-            assigns ! (of-opd ! (load ! (from ! (stop !)) (look ! 57 refl))) (from ! (stop !)) (init ! 27 refl (LL.lawful Row.the-type Row′.the-laws 𝓤 H A W .typed (rowAt (h .rows) i) _ (row-is h was i (row-below (r .verdict) i p)) .0)) $
-            making-slot r r-is e z i p (sixteen-rows h was) (row-is h was i (row-below (r .verdict) i p))))
+            assigns ! (of-opd ! (load ! (from ! (stop !)) (look ! 57 refl))) (from ! (stop !)) (init ! 28 refl (LL.lawful Row.the-type Row′.the-laws 𝓤 H A W .typed (rowAt (h .rows) i) _ (row-is h was i (row-below (r .verdict) i p)) .0)) $
+            making-ruling r r-is e z i p (sixteen-rows h was) (row-is h was i (row-below (r .verdict) i p))))
 
         -- the row to look at
-        finding-slot : {y2 y19 y48 : Val} (r : Ruling) → Is Ruling-row.the-row r (LL.val Ruling-row.the-type Ruling-row′.the-laws r ∷ []) → ruled h [] r ≡ doneOf (stepOf h (stepFor call (bytesIn f) room)) → roomSent (h .rows) room (r .verdict) ≡ roomFor h call room → Sq W (‵ (fobs γ (T.the-row .coded .code h)) ∷ ‵ (fbor κ (Body (mem T.the-row) b o γ)) ∷ ‵ (flft κ q) ∷ ‵ Room′ ∷ ‵ (flft κ-room q-room) ∷ ‵ (froom Answer-row′.mir l0 0) ∷ ‵ (fat fullShare (tyRef (named 0) mut rec-ty) l1 0 (vptr b o)) ∷ ‵ (fat fullShare Call-row′.mir l2 0 y2) ∷ ‵ (fat fullShare Frame-row′.mir l3 0 (LL.val Frame-row.the-type Frame-row′.the-laws f)) ∷ ‵ (fat fullShare (sliceTy (tyRef (named 1) mut (tyInt w8))) l4 0 s-room) ∷ ‵ (froom out-ty l5 0) ∷ ‵ (froom (tyInt w8) l6 0) ∷ ‵ (froom Control-row′.mir l7 0) ∷ ‵ (froom (tyInt w64) l8 0) ∷ ‵ (froom Row′.mir l9 0) ∷ ‵ (froom (tyInt w8) l10 0) ∷ ‵ (froom (tyInt w8) l11 0) ∷ ‵ (froom Control-row′.mir l12 0) ∷ ‵ (froom (tyInt w64) l13 0) ∷ ‵ (froom Row′.mir l14 0) ∷ ‵ (froom out-ty l15 0) ∷ ‵ (froom Sync-row′.mir l16 0) ∷ ‵ (froom out-ty l17 0) ∷ ‵ (froom out-ty l18 0) ∷ ‵ (fat fullShare (tyInt w8) l19 0 y19) ∷ ‵ (fat fullShare Ruling-row′.mir l20 0 (LL.val Ruling-row.the-type Ruling-row′.the-laws r)) ∷ ‵ (froom (tyInt w64) l21 0) ∷ ‵ (froom Row′.mir l22 0) ∷ ‵ (froom out-ty l23 0) ∷ ‵ (froom tyBool l24 0) ∷ ‵ (froom Ruling-row′.mir l25 0) ∷ ‵ (froom (tyInt w64) l26 0) ∷ ‵ (froom Row′.mir l27 0) ∷ ‵ (froom out-ty l28 0) ∷ ‵ (froom Fault-row′.mir l29 0) ∷ ‵ (froom out-ty l30 0) ∷ ‵ (froom out-ty l31 0) ∷ ‵ (froom Answer-row′.mir l32 0) ∷ ‵ (froom T′.mir l33 0) ∷ ‵ (froom (tyRef erased mut rec-ty) l34 0) ∷ ‵ (froom (tyInt w64) l35 0) ∷ ‵ (froom tyPtr l36 0) ∷ ‵ (froom tyPtr l37 0) ∷ ‵ (froom Row′.mir l38 0) ∷ ‵ (froom (tyInt w64) l39 0) ∷ ‵ (froom tyPtr l40 0) ∷ ‵ (froom tyPtr l41 0) ∷ ‵ (froom Row′.mir l42 0) ∷ ‵ (froom (tyRef erased mut rec-ty) l43 0) ∷ ‵ (froom T′.mir l44 0) ∷ ‵ (froom (tyRef erased mut rec-ty) l45 0) ∷ ‵ (froom T′.mir l46 0) ∷ ‵ (froom (tyRef erased mut rec-ty) l47 0) ∷ ‵ (fat fullShare T′.mir l48 0 y48) ∷ ‵ (froom (tyInt w64) l49 0) ∷ ‵ (froom tyPtr l50 0) ∷ ‵ (froom tyPtr l51 0) ∷ ‵ (froom Row′.mir l52 0) ∷ ‵ (froom (tyRef erased mut (tyInt w8)) l53 0) ∷ ‵ (froom (sliceTy (tyRef erased mut (tyInt w8))) l54 0) ∷ ‵ (froom (tyRef erased mut rec-ty) l55 0) ∷ ‵ (froom T′.mir l56 0) ∷ ‵ (froom (tyInt w64) l57 0) ∷ ‵ (froom tyPtr l58 0) ∷ ‵ (froom tyPtr l59 0) ∷ ‵ (froom Row′.mir l60 0) ∷ ‵ (froom (tyRef erased mut rec-ty) l61 0) ∷ ‵ (froom T′.mir l62 0) ∷ ‵ (froom (tyRef erased mut rec-ty) l63 0) ∷ ‵ (froom T′.mir l64 0) ∷ ‵ (froom (tyRef erased mut rec-ty) l65 0) ∷ Dies) (runs C Λ En code-finding-slot (anyQ (Next call)))
-        finding-slot r r-is e z =
+        finding-ruling : {y2 y20 y48 : Val} (r : Ruling) → Is Ruling-row.the-row r (LL.val Ruling-row.the-type Ruling-row′.the-laws r ∷ []) → ruled h (bytesIn f) r ≡ doneOf (stepOf h (stepFor call (bytesIn f) room)) → room ≡ roomFor h call room → Sq W (‵ (fobs γ (T.the-row .coded .code h)) ∷ ‵ (fbor κ (Body (mem T.the-row) b o γ)) ∷ ‵ (flft κ q) ∷ ‵ (flft κ-room q-room) ∷ ‵ (finally u8 γ-room room) ∷ ‵ (froom Answer-row′.mir l0 0) ∷ ‵ (fat fullShare (tyRef (named 0) mut rec-ty) l1 0 (vptr b o)) ∷ ‵ (fat fullShare Call-row′.mir l2 0 y2) ∷ ‵ (fat fullShare Frame-row′.mir l3 0 (LL.val Frame-row.the-type Frame-row′.the-laws f)) ∷ ‵ (fat fullShare (sliceTy (tyRef (named 1) mut (tyInt w8))) l4 0 s-room) ∷ ‵ (froom out-ty l5 0) ∷ ‵ (froom (tyInt w8) l6 0) ∷ ‵ (froom Control-row′.mir l7 0) ∷ ‵ (froom (tyInt w64) l8 0) ∷ ‵ (froom Row′.mir l9 0) ∷ ‵ (froom (tyInt w8) l10 0) ∷ ‵ (froom (tyInt w8) l11 0) ∷ ‵ (froom Sync-row′.mir l12 0) ∷ ‵ (froom out-ty l13 0) ∷ ‵ (froom out-ty l14 0) ∷ ‵ (froom (tyInt w8) l15 0) ∷ ‵ (froom Ruling-row′.mir l16 0) ∷ ‵ (froom (tyInt w64) l17 0) ∷ ‵ (froom Row′.mir l18 0) ∷ ‵ (froom out-ty l19 0) ∷ ‵ (fat fullShare tyBool l20 0 y20) ∷ ‵ (fat fullShare Ruling-row′.mir l21 0 (LL.val Ruling-row.the-type Ruling-row′.the-laws r)) ∷ ‵ (froom (tyInt w64) l22 0) ∷ ‵ (froom Row′.mir l23 0) ∷ ‵ (froom out-ty l24 0) ∷ ‵ (froom Fault-row′.mir l25 0) ∷ ‵ (froom out-ty l26 0) ∷ ‵ (froom out-ty l27 0) ∷ ‵ (froom Answer-row′.mir l28 0) ∷ ‵ (froom T′.mir l29 0) ∷ ‵ (froom (tyRef erased mut rec-ty) l30 0) ∷ ‵ (froom (tyInt w64) l31 0) ∷ ‵ (froom tyPtr l32 0) ∷ ‵ (froom tyPtr l33 0) ∷ ‵ (froom Row′.mir l34 0) ∷ ‵ (froom (tyRef erased mut rec-ty) l35 0) ∷ ‵ (froom T′.mir l36 0) ∷ ‵ (froom (tyRef erased mut rec-ty) l37 0) ∷ ‵ (froom T′.mir l38 0) ∷ ‵ (froom (tyRef erased mut rec-ty) l39 0) ∷ ‵ (froom T′.mir l40 0) ∷ ‵ (froom (tyInt w64) l41 0) ∷ ‵ (froom tyPtr l42 0) ∷ ‵ (froom tyPtr l43 0) ∷ ‵ (froom Row′.mir l44 0) ∷ ‵ (froom (tyRef erased mut (tyInt w8)) l45 0) ∷ ‵ (froom (sliceTy (tyRef erased mut (tyInt w8))) l46 0) ∷ ‵ (froom (tyRef erased mut rec-ty) l47 0) ∷ ‵ (fat fullShare T′.mir l48 0 y48) ∷ ‵ (froom (tyInt w64) l49 0) ∷ ‵ (froom tyPtr l50 0) ∷ ‵ (froom tyPtr l51 0) ∷ ‵ (froom Row′.mir l52 0) ∷ ‵ (froom (tyRef erased mut rec-ty) l53 0) ∷ ‵ (froom T′.mir l54 0) ∷ ‵ (froom (tyRef erased mut rec-ty) l55 0) ∷ ‵ (froom T′.mir l56 0) ∷ ‵ (froom (tyRef erased mut rec-ty) l57 0) ∷ Dies) (runs C Λ En code-finding-ruling (anyQ (Next call)))
+        finding-ruling r r-is e z =
             use0 W (raw ((Rows 𝓤 H A at-mem run) .pre (to-rows r))) (asked-rows r r-is) $
-            calls-at ! fm (Rows 𝓤 H A at-mem run) known-rows (to-rows r) (and-then ! (load ! (from ! (stop !)) (look ! 26 refl)) (no-more !)) (λ v.
+            calls-at ! fm (Rows 𝓤 H A at-mem run) known-rows (to-rows r) (and-then ! (load ! (from ! (stop !)) (look ! 27 refl)) (no-more !)) (λ v.
             use1 W (later (some (λ (i : ℕ). (‵ ftrue ⊛ ‵ (usize .own i (v ∷ []))) ⊛ raw (ensured 𝓤 H A rows.ended (rows.clauses 𝓤 H A at-mem run) tt (r, tt) tt i)))) (id⊢ 𝓤 _) $ await ! tt $ pick ! (λ i.
             split ! $ move ! (1 ∷ []) $ use1 W (some (λ (ws : Lasts rows.ended tt (r, tt)). ‵ (lasts rows.ended tt (r, tt) ws) ⊛ raw (fact 𝓤 (i ≡ rowOf (r .verdict))))) (id⊢ 𝓤 _) $ pick ! (λ ws.
             split ! $ move ! (1 ∷ []) $ heard ! (i ≡ rowOf (r .verdict)) (λ p. drop ! $ split ! $ drop ! $
             peeks ! usize (Is usize) (shows 𝓤 H A usize) i (v ∷ []) (λ is. drop ! $
-            land ! (from ! (stop !)) (init ! 26 refl (uint-lawful 𝓤 H A W w64 .typed i _ is .0)) $ rewrite ! 26 (λ (u : Val). ‵ (fat fullShare (tyInt w64) l21 0 u)) (ap only (is .0)) refl $
-            reading-slot r r-is e z i p)))))
+            land ! (from ! (stop !)) (init ! 27 refl (uint-lawful 𝓤 H A W w64 .typed i _ is .0)) $ rewrite ! 27 (λ (u : Val). ‵ (fat fullShare (tyInt w64) l22 0 u)) (ap only (is .0)) refl $
+            reading-ruling r r-is e z i p)))))
 
-        -- Slot
-        on-slot : {y2 : Val} (n : ℕ) → n < 2 ^ 8 → slot n room ≡ stepFor call (bytesIn f) room → stepOf h (slot n room) .room ≡ roomFor h call room → Sq W (‵ Rec ∷ ‵ (flft κ q) ∷ ‵ Room′ ∷ ‵ (flft κ-room q-room) ∷ ‵ (froom Answer-row′.mir l0 0) ∷ ‵ (fat fullShare (tyRef (named 0) mut rec-ty) l1 0 (vptr b o)) ∷ ‵ (fat fullShare Call-row′.mir l2 0 y2) ∷ ‵ (fat fullShare Frame-row′.mir l3 0 (LL.val Frame-row.the-type Frame-row′.the-laws f)) ∷ ‵ (fat fullShare (sliceTy (tyRef (named 1) mut (tyInt w8))) l4 0 s-room) ∷ ‵ (froom out-ty l5 0) ∷ ‵ (froom (tyInt w8) l6 0) ∷ ‵ (froom Control-row′.mir l7 0) ∷ ‵ (froom (tyInt w64) l8 0) ∷ ‵ (froom Row′.mir l9 0) ∷ ‵ (froom (tyInt w8) l10 0) ∷ ‵ (froom (tyInt w8) l11 0) ∷ ‵ (froom Control-row′.mir l12 0) ∷ ‵ (froom (tyInt w64) l13 0) ∷ ‵ (froom Row′.mir l14 0) ∷ ‵ (froom out-ty l15 0) ∷ ‵ (froom Sync-row′.mir l16 0) ∷ ‵ (froom out-ty l17 0) ∷ ‵ (froom out-ty l18 0) ∷ ‵ (fat fullShare (tyInt w8) l19 0 (vint w8 n)) ∷ ‵ (froom Ruling-row′.mir l20 0) ∷ ‵ (froom (tyInt w64) l21 0) ∷ ‵ (froom Row′.mir l22 0) ∷ ‵ (froom out-ty l23 0) ∷ ‵ (froom tyBool l24 0) ∷ ‵ (froom Ruling-row′.mir l25 0) ∷ ‵ (froom (tyInt w64) l26 0) ∷ ‵ (froom Row′.mir l27 0) ∷ ‵ (froom out-ty l28 0) ∷ ‵ (froom Fault-row′.mir l29 0) ∷ ‵ (froom out-ty l30 0) ∷ ‵ (froom out-ty l31 0) ∷ ‵ (froom Answer-row′.mir l32 0) ∷ ‵ (froom T′.mir l33 0) ∷ ‵ (froom (tyRef erased mut rec-ty) l34 0) ∷ ‵ (froom (tyInt w64) l35 0) ∷ ‵ (froom tyPtr l36 0) ∷ ‵ (froom tyPtr l37 0) ∷ ‵ (froom Row′.mir l38 0) ∷ ‵ (froom (tyInt w64) l39 0) ∷ ‵ (froom tyPtr l40 0) ∷ ‵ (froom tyPtr l41 0) ∷ ‵ (froom Row′.mir l42 0) ∷ ‵ (froom (tyRef erased mut rec-ty) l43 0) ∷ ‵ (froom T′.mir l44 0) ∷ ‵ (froom (tyRef erased mut rec-ty) l45 0) ∷ ‵ (froom T′.mir l46 0) ∷ ‵ (froom (tyRef erased mut rec-ty) l47 0) ∷ ‵ (froom T′.mir l48 0) ∷ ‵ (froom (tyInt w64) l49 0) ∷ ‵ (froom tyPtr l50 0) ∷ ‵ (froom tyPtr l51 0) ∷ ‵ (froom Row′.mir l52 0) ∷ ‵ (froom (tyRef erased mut (tyInt w8)) l53 0) ∷ ‵ (froom (sliceTy (tyRef erased mut (tyInt w8))) l54 0) ∷ ‵ (froom (tyRef erased mut rec-ty) l55 0) ∷ ‵ (froom T′.mir l56 0) ∷ ‵ (froom (tyInt w64) l57 0) ∷ ‵ (froom tyPtr l58 0) ∷ ‵ (froom tyPtr l59 0) ∷ ‵ (froom Row′.mir l60 0) ∷ ‵ (froom (tyRef erased mut rec-ty) l61 0) ∷ ‵ (froom T′.mir l62 0) ∷ ‵ (froom (tyRef erased mut rec-ty) l63 0) ∷ ‵ (froom T′.mir l64 0) ∷ ‵ (froom (tyRef erased mut rec-ty) l65 0) ∷ Dies) (runs C Λ En code-slot (anyQ (Next call)))
-        on-slot n n-fits s z =
+        -- Frame
+        on-ruling : {y2 : Val} (good : Bool) → frameStep good (bytesIn f) ≡ stepFor call (bytesIn f) room → room ≡ roomFor h call room → Sq W (‵ Rec ∷ ‵ (flft κ q) ∷ ‵ Room′ ∷ ‵ (flft κ-room q-room) ∷ ‵ (froom Answer-row′.mir l0 0) ∷ ‵ (fat fullShare (tyRef (named 0) mut rec-ty) l1 0 (vptr b o)) ∷ ‵ (fat fullShare Call-row′.mir l2 0 y2) ∷ ‵ (fat fullShare Frame-row′.mir l3 0 (LL.val Frame-row.the-type Frame-row′.the-laws f)) ∷ ‵ (fat fullShare (sliceTy (tyRef (named 1) mut (tyInt w8))) l4 0 s-room) ∷ ‵ (froom out-ty l5 0) ∷ ‵ (froom (tyInt w8) l6 0) ∷ ‵ (froom Control-row′.mir l7 0) ∷ ‵ (froom (tyInt w64) l8 0) ∷ ‵ (froom Row′.mir l9 0) ∷ ‵ (froom (tyInt w8) l10 0) ∷ ‵ (froom (tyInt w8) l11 0) ∷ ‵ (froom Sync-row′.mir l12 0) ∷ ‵ (froom out-ty l13 0) ∷ ‵ (froom out-ty l14 0) ∷ ‵ (froom (tyInt w8) l15 0) ∷ ‵ (froom Ruling-row′.mir l16 0) ∷ ‵ (froom (tyInt w64) l17 0) ∷ ‵ (froom Row′.mir l18 0) ∷ ‵ (froom out-ty l19 0) ∷ ‵ (fat fullShare tyBool l20 0 (vbool good)) ∷ ‵ (froom Ruling-row′.mir l21 0) ∷ ‵ (froom (tyInt w64) l22 0) ∷ ‵ (froom Row′.mir l23 0) ∷ ‵ (froom out-ty l24 0) ∷ ‵ (froom Fault-row′.mir l25 0) ∷ ‵ (froom out-ty l26 0) ∷ ‵ (froom out-ty l27 0) ∷ ‵ (froom Answer-row′.mir l28 0) ∷ ‵ (froom T′.mir l29 0) ∷ ‵ (froom (tyRef erased mut rec-ty) l30 0) ∷ ‵ (froom (tyInt w64) l31 0) ∷ ‵ (froom tyPtr l32 0) ∷ ‵ (froom tyPtr l33 0) ∷ ‵ (froom Row′.mir l34 0) ∷ ‵ (froom (tyRef erased mut rec-ty) l35 0) ∷ ‵ (froom T′.mir l36 0) ∷ ‵ (froom (tyRef erased mut rec-ty) l37 0) ∷ ‵ (froom T′.mir l38 0) ∷ ‵ (froom (tyRef erased mut rec-ty) l39 0) ∷ ‵ (froom T′.mir l40 0) ∷ ‵ (froom (tyInt w64) l41 0) ∷ ‵ (froom tyPtr l42 0) ∷ ‵ (froom tyPtr l43 0) ∷ ‵ (froom Row′.mir l44 0) ∷ ‵ (froom (tyRef erased mut (tyInt w8)) l45 0) ∷ ‵ (froom (sliceTy (tyRef erased mut (tyInt w8))) l46 0) ∷ ‵ (froom (tyRef erased mut rec-ty) l47 0) ∷ ‵ (froom T′.mir l48 0) ∷ ‵ (froom (tyInt w64) l49 0) ∷ ‵ (froom tyPtr l50 0) ∷ ‵ (froom tyPtr l51 0) ∷ ‵ (froom Row′.mir l52 0) ∷ ‵ (froom (tyRef erased mut rec-ty) l53 0) ∷ ‵ (froom T′.mir l54 0) ∷ ‵ (froom (tyRef erased mut rec-ty) l55 0) ∷ ‵ (froom T′.mir l56 0) ∷ ‵ (froom (tyRef erased mut rec-ty) l57 0) ∷ Dies) (runs C Λ En code-ruling (anyQ (Next call)))
+        on-ruling good s z =
             fsplit3 ! $ drop ! $
             opens ! tt T.the-row {h = h} b o (λ vs. spelt ! T.the-row (Is T.the-row) (shows 𝓤 H A T.the-row) (LL.vals T.the-type T′.the-laws) (LL.tells T.the-type T′.the-laws) fullShare h vs b o $
             move ! (1 ∷ []) $ peeks ! T.the-row (Is T.the-row) (shows 𝓤 H A T.the-row) h (mach h ∷ []) (λ was.
             assigns ! (of-opd ! (load ! (from ! (hop ! (look ! 8 refl) (stop !))) (look-raw ! 1 refl))) (from ! (stop !)) (init ! 55 refl (LL.lawful T.the-type T′.the-laws 𝓤 H A W .typed h _ was .0)) $
             move ! (1 ∷ 0 ∷ 2 ∷ 3 ∷ 4 ∷ []) $ closes ! tt T.the-row h (mach h ∷ []) b o $
-            assigns ! (of-opd ! (load ! (from ! (fld ! refl (stop !))) (look-in ! 9 (sub ! 1 refl (whole !))))) (from ! (stop !)) (init ! 54 refl (tt, record { fits = room-room .0 })) $
-            use0 W (raw ((Slots 𝓤 H A at-mem run) .pre (to-slot n))) (asked-slot n n-fits was) $
-            calls-at ! fm (Slots 𝓤 H A at-mem run) known-slots (to-slot n) (and-then ! (load ! (from ! (stop !)) (look ! 54 refl)) (and-then ! (load ! (from ! (stop !)) (look ! 25 refl)) (and-then ! (load ! (from ! (stop !)) (look ! 55 refl)) (no-more !)))) (λ v.
-            use1 W (later (some (λ (r : Ruling). (‵ ftrue ⊛ ‵ (Ruling-row.the-row .own r (v ∷ []))) ⊛ raw (ensured 𝓤 H A slots.ended (slots.clauses 𝓤 H A at-mem run) tt (args-slot n) tt r)))) (id⊢ 𝓤 _) $ await ! tt $ pick ! (λ r.
-            split ! $ move ! (1 ∷ []) $ use1 W (some (λ (ws : Lasts slots.ended tt (args-slot n)). ‵ (lasts slots.ended tt (args-slot n) ws) ⊛ raw (fact 𝓤 ((zs : List ℕ) → length zs ≡ length room → ruled h [] r ≡ doneOf (stepOf h (slot n zs)))) ⊛ raw (fact 𝓤 ((zs : List ℕ) → length zs ≡ length room → roomSent (h .rows) zs (r .verdict) ≡ stepOf h (slot n zs) .room)))) (id⊢ 𝓤 _) $ pick ! (λ ws.
-            split ! $ move ! (1 ∷ []) $ split ! $ heard ! ((zs : List ℕ) → length zs ≡ length room → ruled h [] r ≡ doneOf (stepOf h (slot n zs))) (λ e. heard ! ((zs : List ℕ) → length zs ≡ length room → roomSent (h .rows) zs (r .verdict) ≡ stepOf h (slot n zs) .room) (λ z₁. drop ! $ split ! $ drop ! $
+            move ! (3 ∷ []) $ fsplit ! $ move ! (1 ∷ []) $ fsplit ! $
+            use1 W (‵ (fres γ-room (codedHoleys u8 .code (heres u8 room)))) (W .names .obs-res γ-room (codedHoleys u8 .code (heres u8 room))) $ use1 W (‵ (finally u8 γ-room room)) (res-finally 𝓤 H A W (named 1) κ-room u8 γ-room room) $
+            use0 W (raw ((Rulings 𝓤 H A at-mem run) .pre (to-ruling good))) (asked-ruling good was) $
+            calls-at ! fm (Rulings 𝓤 H A at-mem run) known-rulings (to-ruling good) (and-then ! (load ! (from ! (stop !)) (look ! 56 refl)) (and-then ! (load ! (from ! (stop !)) (look ! 28 refl)) (and-then ! (load ! (from ! (stop !)) (look ! 11 refl)) (no-more !)))) (λ v.
+            use1 W (later (some (λ (r : Ruling). (‵ ftrue ⊛ ‵ (Ruling-row.the-row .own r (v ∷ []))) ⊛ raw (ensured 𝓤 H A rulings.ended (rulings.clauses 𝓤 H A at-mem run) tt (args-ruling good) tt r)))) (id⊢ 𝓤 _) $ await ! tt $ pick ! (λ r.
+            split ! $ move ! (1 ∷ []) $ use1 W (some (λ (ws : Lasts rulings.ended tt (args-ruling good)). ‵ (lasts rulings.ended tt (args-ruling good) ws) ⊛ raw (fact 𝓤 (ruled h (bytesIn f) r ≡ doneOf (stepOf h (frameStep good (bytesIn f))))))) (id⊢ 𝓤 _) $ pick ! (λ ws.
+            split ! $ move ! (1 ∷ []) $ heard ! (ruled h (bytesIn f) r ≡ doneOf (stepOf h (frameStep good (bytesIn f)))) (λ e. drop ! $ split ! $ drop ! $
             peeks ! Ruling-row.the-row (Is Ruling-row.the-row) (shows 𝓤 H A Ruling-row.the-row) r (v ∷ []) (λ is. drop ! $
-            land ! (from ! (stop !)) (init ! 25 refl (LL.lawful Ruling-row.the-type Ruling-row′.the-laws 𝓤 H A W .typed r _ is .0)) $ rewrite ! 25 (λ (u : Val). ‵ (fat fullShare Ruling-row′.mir l20 0 u)) (ap only (LL.tells Ruling-row.the-type Ruling-row′.the-laws r _ is)) refl $
-            forget ! 54 refl $ finding-slot r (ruling-is r _ is) (e room refl ∙ ap (λ (s : Step). doneOf (stepOf h s)) s) (z₁ room refl ∙ z)))))))))
+            land ! (from ! (stop !)) (init ! 28 refl (LL.lawful Ruling-row.the-type Ruling-row′.the-laws 𝓤 H A W .typed r _ is .0)) $ rewrite ! 28 (λ (u : Val). ‵ (fat fullShare Ruling-row′.mir l21 0 u)) (ap only (LL.tells Ruling-row.the-type Ruling-row′.the-laws r _ is)) refl $
+            keep ! (3 ∷ 4 ∷ 5 ∷ 6 ∷ 0 ∷ 7 ∷ 8 ∷ 9 ∷ 10 ∷ 11 ∷ 12 ∷ 13 ∷ 14 ∷ 15 ∷ 16 ∷ 17 ∷ 18 ∷ 19 ∷ 20 ∷ 21 ∷ 22 ∷ 23 ∷ 24 ∷ 25 ∷ 26 ∷ 27 ∷ 28 ∷ 29 ∷ 30 ∷ 31 ∷ 32 ∷ 33 ∷ 34 ∷ 35 ∷ 36 ∷ 37 ∷ 38 ∷ 39 ∷ 40 ∷ 41 ∷ 42 ∷ 43 ∷ 44 ∷ 45 ∷ 46 ∷ 47 ∷ 48 ∷ 49 ∷ 50 ∷ 51 ∷ 52 ∷ 53 ∷ 54 ∷ 55 ∷ 56 ∷ 57 ∷ 58 ∷ 59 ∷ 60 ∷ 61 ∷ 62 ∷ 63 ∷ 64 ∷ 65 ∷ 66 ∷ 67 ∷ 68 ∷ 69 ∷ 70 ∷ 71 ∷ 72 ∷ 73 ∷ 74 ∷ 75 ∷ 76 ∷ 77 ∷ 78 ∷ 79 ∷ 80 ∷ 81 ∷ 82 ∷ 83 ∷ 84 ∷ 85 ∷ 86 ∷ 87 ∷ 88 ∷ 89 ∷ 90 ∷ 91 ∷ 92 ∷ 93 ∷ 94 ∷ 95 ∷ 96 ∷ 97 ∷ 98 ∷ 99 ∷ 100 ∷ 101 ∷ 102 ∷ 103 ∷ 104 ∷ 105 ∷ 106 ∷ 107 ∷ 108 ∷ 109 ∷ 110 ∷ 111 ∷ 112 ∷ 113 ∷ 114 ∷ 115 ∷ 116 ∷ 117 ∷ 118 ∷ 119 ∷ 120 ∷ 121 ∷ 122 ∷ []) $ finding-ruling r (ruling-is r _ is) (e ∙ ap (λ (s : Step). doneOf (stepOf h s)) s) z)))))))
 
-        -- what `Frame` changes is carried out
-        carried-ruling : {y2 y24 y56 y25 y26 y27 y57 y58 y59 y60 : Val} (x : Change) → Is S.the-row x (LL.val S.the-type S′.the-laws x ∷ []) → changed h x ≡ doneOf (stepOf h (stepFor call (bytesIn f) room)) → (zs : List ℕ) → zs ≡ roomFor h call room → length zs ≡ length room → Sq W (‵ (fobs γ (T.the-row .coded .code h)) ∷ ‵ (fbor κ (Body (mem T.the-row) b o γ)) ∷ ‵ (flft κ q) ∷ ‵ (flft κ-room q-room) ∷ ‵ (finally u8 γ-room zs) ∷ ‵ (froom Answer-row′.mir l0 0) ∷ ‵ (fat fullShare (tyRef (named 0) mut rec-ty) l1 0 (vptr b o)) ∷ ‵ (fat fullShare Call-row′.mir l2 0 y2) ∷ ‵ (fat fullShare Frame-row′.mir l3 0 (LL.val Frame-row.the-type Frame-row′.the-laws f)) ∷ ‵ (fat fullShare (sliceTy (tyRef (named 1) mut (tyInt w8))) l4 0 s-room) ∷ ‵ (froom out-ty l5 0) ∷ ‵ (froom (tyInt w8) l6 0) ∷ ‵ (froom Control-row′.mir l7 0) ∷ ‵ (froom (tyInt w64) l8 0) ∷ ‵ (froom Row′.mir l9 0) ∷ ‵ (froom (tyInt w8) l10 0) ∷ ‵ (froom (tyInt w8) l11 0) ∷ ‵ (froom Control-row′.mir l12 0) ∷ ‵ (froom (tyInt w64) l13 0) ∷ ‵ (froom Row′.mir l14 0) ∷ ‵ (froom out-ty l15 0) ∷ ‵ (froom Sync-row′.mir l16 0) ∷ ‵ (froom out-ty l17 0) ∷ ‵ (froom out-ty l18 0) ∷ ‵ (froom (tyInt w8) l19 0) ∷ ‵ (froom Ruling-row′.mir l20 0) ∷ ‵ (froom (tyInt w64) l21 0) ∷ ‵ (froom Row′.mir l22 0) ∷ ‵ (froom out-ty l23 0) ∷ ‵ (fat fullShare tyBool l24 0 y24) ∷ ‵ (fat fullShare Ruling-row′.mir l25 0 y25) ∷ ‵ (fat fullShare (tyInt w64) l26 0 y26) ∷ ‵ (fat fullShare Row′.mir l27 0 y27) ∷ ‵ (fat fullShare out-ty l28 0 (LL.val S.the-type S′.the-laws x)) ∷ ‵ (froom Fault-row′.mir l29 0) ∷ ‵ (froom out-ty l30 0) ∷ ‵ (froom out-ty l31 0) ∷ ‵ (froom Answer-row′.mir l32 0) ∷ ‵ (froom T′.mir l33 0) ∷ ‵ (froom (tyRef erased mut rec-ty) l34 0) ∷ ‵ (froom (tyInt w64) l35 0) ∷ ‵ (froom tyPtr l36 0) ∷ ‵ (froom tyPtr l37 0) ∷ ‵ (froom Row′.mir l38 0) ∷ ‵ (froom (tyInt w64) l39 0) ∷ ‵ (froom tyPtr l40 0) ∷ ‵ (froom tyPtr l41 0) ∷ ‵ (froom Row′.mir l42 0) ∷ ‵ (froom (tyRef erased mut rec-ty) l43 0) ∷ ‵ (froom T′.mir l44 0) ∷ ‵ (froom (tyRef erased mut rec-ty) l45 0) ∷ ‵ (froom T′.mir l46 0) ∷ ‵ (froom (tyRef erased mut rec-ty) l47 0) ∷ ‵ (froom T′.mir l48 0) ∷ ‵ (froom (tyInt w64) l49 0) ∷ ‵ (froom tyPtr l50 0) ∷ ‵ (froom tyPtr l51 0) ∷ ‵ (froom Row′.mir l52 0) ∷ ‵ (froom (tyRef erased mut (tyInt w8)) l53 0) ∷ ‵ (froom (sliceTy (tyRef erased mut (tyInt w8))) l54 0) ∷ ‵ (froom (tyRef erased mut rec-ty) l55 0) ∷ ‵ (fat fullShare T′.mir l56 0 y56) ∷ ‵ (fat fullShare (tyInt w64) l57 0 y57) ∷ ‵ (fat fullShare tyPtr l58 0 y58) ∷ ‵ (fat fullShare tyPtr l59 0 y59) ∷ ‵ (fat fullShare Row′.mir l60 0 y60) ∷ ‵ (froom (tyRef erased mut rec-ty) l61 0) ∷ ‵ (froom T′.mir l62 0) ∷ ‵ (froom (tyRef erased mut rec-ty) l63 0) ∷ ‵ (froom T′.mir l64 0) ∷ ‵ (froom (tyRef erased mut rec-ty) l65 0) ∷ Dies) (runs C Λ En (carrying 61 28) (anyQ (Next call)))
-        carried-ruling x x-is e zs z l =
-            assigns ! (addr ! (from ! (hop ! (look ! 6 refl) (stop !)))) (from ! (stop !)) (init ! 66 refl (tt, tt)) $
+        -- what `Fault` changes is carried out
+        carried-fault : {y2 y25 y54 : Val} (x : Change) → Is S.the-row x (LL.val S.the-type S′.the-laws x ∷ []) → changed h x ≡ doneOf (stepOf h (stepFor call (bytesIn f) room)) → (zs : List ℕ) → zs ≡ roomFor h call room → length zs ≡ length room → Sq W (‵ (fobs γ (T.the-row .coded .code h)) ∷ ‵ (fbor κ (Body (mem T.the-row) b o γ)) ∷ ‵ (flft κ q) ∷ ‵ (flft κ-room q-room) ∷ ‵ (finally u8 γ-room zs) ∷ ‵ (froom Answer-row′.mir l0 0) ∷ ‵ (fat fullShare (tyRef (named 0) mut rec-ty) l1 0 (vptr b o)) ∷ ‵ (fat fullShare Call-row′.mir l2 0 y2) ∷ ‵ (fat fullShare Frame-row′.mir l3 0 (LL.val Frame-row.the-type Frame-row′.the-laws f)) ∷ ‵ (fat fullShare (sliceTy (tyRef (named 1) mut (tyInt w8))) l4 0 s-room) ∷ ‵ (froom out-ty l5 0) ∷ ‵ (froom (tyInt w8) l6 0) ∷ ‵ (froom Control-row′.mir l7 0) ∷ ‵ (froom (tyInt w64) l8 0) ∷ ‵ (froom Row′.mir l9 0) ∷ ‵ (froom (tyInt w8) l10 0) ∷ ‵ (froom (tyInt w8) l11 0) ∷ ‵ (froom Sync-row′.mir l12 0) ∷ ‵ (froom out-ty l13 0) ∷ ‵ (froom out-ty l14 0) ∷ ‵ (froom (tyInt w8) l15 0) ∷ ‵ (froom Ruling-row′.mir l16 0) ∷ ‵ (froom (tyInt w64) l17 0) ∷ ‵ (froom Row′.mir l18 0) ∷ ‵ (froom out-ty l19 0) ∷ ‵ (froom tyBool l20 0) ∷ ‵ (froom Ruling-row′.mir l21 0) ∷ ‵ (froom (tyInt w64) l22 0) ∷ ‵ (froom Row′.mir l23 0) ∷ ‵ (froom out-ty l24 0) ∷ ‵ (fat fullShare Fault-row′.mir l25 0 y25) ∷ ‵ (fat fullShare out-ty l26 0 (LL.val S.the-type S′.the-laws x)) ∷ ‵ (froom out-ty l27 0) ∷ ‵ (froom Answer-row′.mir l28 0) ∷ ‵ (froom T′.mir l29 0) ∷ ‵ (froom (tyRef erased mut rec-ty) l30 0) ∷ ‵ (froom (tyInt w64) l31 0) ∷ ‵ (froom tyPtr l32 0) ∷ ‵ (froom tyPtr l33 0) ∷ ‵ (froom Row′.mir l34 0) ∷ ‵ (froom (tyRef erased mut rec-ty) l35 0) ∷ ‵ (froom T′.mir l36 0) ∷ ‵ (froom (tyRef erased mut rec-ty) l37 0) ∷ ‵ (froom T′.mir l38 0) ∷ ‵ (froom (tyRef erased mut rec-ty) l39 0) ∷ ‵ (froom T′.mir l40 0) ∷ ‵ (froom (tyInt w64) l41 0) ∷ ‵ (froom tyPtr l42 0) ∷ ‵ (froom tyPtr l43 0) ∷ ‵ (froom Row′.mir l44 0) ∷ ‵ (froom (tyRef erased mut (tyInt w8)) l45 0) ∷ ‵ (froom (sliceTy (tyRef erased mut (tyInt w8))) l46 0) ∷ ‵ (froom (tyRef erased mut rec-ty) l47 0) ∷ ‵ (froom T′.mir l48 0) ∷ ‵ (froom (tyInt w64) l49 0) ∷ ‵ (froom tyPtr l50 0) ∷ ‵ (froom tyPtr l51 0) ∷ ‵ (froom Row′.mir l52 0) ∷ ‵ (froom (tyRef erased mut rec-ty) l53 0) ∷ ‵ (fat fullShare T′.mir l54 0 y54) ∷ ‵ (froom (tyRef erased mut rec-ty) l55 0) ∷ ‵ (froom T′.mir l56 0) ∷ ‵ (froom (tyRef erased mut rec-ty) l57 0) ∷ Dies) (runs C Λ En (carrying 55 26) (anyQ (Next call)))
+        carried-fault x x-is e zs z l =
+            assigns ! (addr ! (from ! (hop ! (look ! 6 refl) (stop !)))) (from ! (stop !)) (init ! 60 refl (tt, tt)) $
             group ! 3 $ use1 W (raw ((Carries 𝓤 H A at-mem run) .pre (to-carry x))) (asked-carry x x-is) $
-            calls-at-last ! fm (Carries 𝓤 H A at-mem run) known-carries (to-carry x) (and-then ! (load ! (from ! (stop !)) (look ! 64 refl)) (and-then ! (load ! (from ! (stop !)) (look ! 31 refl)) (no-more !))) (λ v.
+            calls-at-last ! fm (Carries 𝓤 H A at-mem run) known-carries (to-carry x) (and-then ! (load ! (from ! (stop !)) (look ! 58 refl)) (and-then ! (load ! (from ! (stop !)) (look ! 29 refl)) (no-more !))) (λ v.
             use1 W (later (some (λ (m : Answer). ((‵ (flft κ q) ⊛ ‵ ftrue) ⊛ ‵ (Answer-row.the-row .own m (v ∷ []))) ⊛ raw (ensured 𝓤 H A carries.ended (carries.clauses 𝓤 H A at-mem run) (κ, tt) (args-carry x) tt m)))) (id⊢ 𝓤 _) $ await ! tt $ pick ! (λ m.
             split ! $ move ! (1 ∷ []) $ use1 W (some (λ (ws : Lasts carries.ended (κ, tt) (args-carry x)). ‵ (lasts carries.ended (κ, tt) (args-carry x) ws) ⊛ raw (fact 𝓤 ((ws .0 ≡ changed h x .next) × (m ≡ x .answer))))) (id⊢ 𝓤 _) $ pick ! (λ ws.
             split ! $ move ! (1 ∷ []) $ heard ! ((ws .0 ≡ changed h x .next) × (m ≡ x .answer)) (λ d. fsplit ! $
             move ! (2 ∷ []) $ split ! $ move ! (1 ∷ []) $ peeks ! Answer-row.the-row (Is Answer-row.the-row) (shows 𝓤 H A Answer-row.the-row) m (v ∷ []) (λ is. drop ! $ split ! $
-            land-last ! (from ! (stop !)) (init ! 38 refl (EL.lawful Answer-row.the-type Answer-row′.the-laws 𝓤 H A W tt .typed m _ is .0)) $ rewrite ! 38 (λ (u : Val). ‵ (fat fullShare Answer-row′.mir l32 0 u)) (ap only (EL.tells Answer-row.the-type Answer-row′.the-laws m _ is)) refl $
-            exec ! C Λ En pieces.t-2 (atRet En (Post call)) $ forget ! 30 refl $ forget ! 31 refl $ forget ! 32 refl $ forget ! 33 refl $ forget ! 34 refl $ forget ! 62 refl $ forget ! 63 refl $ forget ! 64 refl $ forget ! 65 refl $ forget ! 66 refl $ forget ! 67 refl $
-            keep ! (2 ∷ 0 ∷ 4 ∷ 5 ∷ 6 ∷ 7 ∷ 8 ∷ 9 ∷ 10 ∷ 11 ∷ 12 ∷ 13 ∷ 14 ∷ 15 ∷ 16 ∷ 17 ∷ 18 ∷ 19 ∷ 20 ∷ 21 ∷ 22 ∷ 23 ∷ 24 ∷ 25 ∷ 26 ∷ 27 ∷ 28 ∷ 29 ∷ 30 ∷ 31 ∷ 32 ∷ 33 ∷ 34 ∷ 35 ∷ 36 ∷ 37 ∷ 38 ∷ 39 ∷ 40 ∷ 41 ∷ 42 ∷ 43 ∷ 44 ∷ 45 ∷ 46 ∷ 47 ∷ 48 ∷ 49 ∷ 50 ∷ 51 ∷ 52 ∷ 53 ∷ 54 ∷ 55 ∷ 56 ∷ 57 ∷ 58 ∷ 59 ∷ 60 ∷ 61 ∷ 62 ∷ 63 ∷ 64 ∷ 65 ∷ 66 ∷ 67 ∷ 68 ∷ 69 ∷ 70 ∷ 71 ∷ 72 ∷ 73 ∷ 74 ∷ 75 ∷ 76 ∷ 77 ∷ 78 ∷ 79 ∷ 80 ∷ 81 ∷ 82 ∷ 83 ∷ 84 ∷ 85 ∷ 86 ∷ 87 ∷ 88 ∷ 89 ∷ 90 ∷ 91 ∷ 92 ∷ 93 ∷ 94 ∷ 95 ∷ 96 ∷ 97 ∷ 98 ∷ 99 ∷ 100 ∷ 101 ∷ 102 ∷ 103 ∷ 104 ∷ 105 ∷ 106 ∷ 107 ∷ 108 ∷ 109 ∷ 110 ∷ 111 ∷ 112 ∷ 113 ∷ 114 ∷ 115 ∷ 116 ∷ 117 ∷ 118 ∷ 119 ∷ 120 ∷ 121 ∷ 122 ∷ 123 ∷ 124 ∷ 125 ∷ 126 ∷ 127 ∷ 128 ∷ 129 ∷ 130 ∷ 131 ∷ 132 ∷ 133 ∷ 134 ∷ 135 ∷ 136 ∷ 137 ∷ []) $ answered (ws .0) m zs (d .0 ∙ ap (λ (u : Done). u .next) e, d .1 ∙ ap (λ (u : Done). u .answer) e, z) (answer-is m _ is) l)))))
+            land-last ! (from ! (stop !)) (init ! 34 refl (EL.lawful Answer-row.the-type Answer-row′.the-laws 𝓤 H A W tt .typed m _ is .0)) $ rewrite ! 34 (λ (u : Val). ‵ (fat fullShare Answer-row′.mir l28 0 u)) (ap only (EL.tells Answer-row.the-type Answer-row′.the-laws m _ is)) refl $
+            exec ! C Λ En pieces.t-2 (atRet En (Post call)) $ forget ! 31 refl $ forget ! 32 refl $ forget ! 60 refl $ forget ! 61 refl $
+            keep ! (2 ∷ 0 ∷ 4 ∷ 5 ∷ 6 ∷ 7 ∷ 8 ∷ 9 ∷ 10 ∷ 11 ∷ 12 ∷ 13 ∷ 14 ∷ 15 ∷ 16 ∷ 17 ∷ 18 ∷ 19 ∷ 20 ∷ 21 ∷ 22 ∷ 23 ∷ 24 ∷ 25 ∷ 26 ∷ 27 ∷ 28 ∷ 29 ∷ 30 ∷ 31 ∷ 32 ∷ 33 ∷ 34 ∷ 35 ∷ 36 ∷ 37 ∷ 38 ∷ 39 ∷ 40 ∷ 41 ∷ 42 ∷ 43 ∷ 44 ∷ 45 ∷ 46 ∷ 47 ∷ 48 ∷ 49 ∷ 50 ∷ 51 ∷ 52 ∷ 53 ∷ 54 ∷ 55 ∷ 56 ∷ 57 ∷ 58 ∷ 59 ∷ 60 ∷ 61 ∷ 62 ∷ 63 ∷ 64 ∷ 65 ∷ 66 ∷ 67 ∷ 68 ∷ 69 ∷ 70 ∷ 71 ∷ 72 ∷ 73 ∷ 74 ∷ 75 ∷ 76 ∷ 77 ∷ 78 ∷ 79 ∷ 80 ∷ 81 ∷ 82 ∷ 83 ∷ 84 ∷ 85 ∷ 86 ∷ 87 ∷ 88 ∷ 89 ∷ 90 ∷ 91 ∷ 92 ∷ 93 ∷ 94 ∷ 95 ∷ 96 ∷ 97 ∷ 98 ∷ 99 ∷ 100 ∷ 101 ∷ 102 ∷ 103 ∷ 104 ∷ 105 ∷ 106 ∷ 107 ∷ 108 ∷ 109 ∷ 110 ∷ 111 ∷ 112 ∷ 113 ∷ 114 ∷ 115 ∷ 116 ∷ 117 ∷ 118 ∷ 119 ∷ 120 ∷ 121 ∷ []) $ answered (ws .0) m zs (d .0 ∙ ap (λ (u : Done). u .next) e, d .1 ∙ ap (λ (u : Done). u .answer) e, z) (answer-is m _ is) l)))))
 
-        -- what is made of the row
-        making-ruling : {y2 y24 y56 y26 y57 y58 y59 y60 : Val} (r : Ruling) → Is Ruling-row.the-row r (LL.val Ruling-row.the-type Ruling-row′.the-laws r ∷ []) → ruled h (bytesIn f) r ≡ doneOf (stepOf h (stepFor call (bytesIn f) room)) → room ≡ roomFor h call room → (i : ℕ) → i ≡ rowOf (r .verdict) → length (h .rows) ≡ 16 → Is Row.the-row (rowAt (h .rows) i) (LL.val Row.the-type Row′.the-laws (rowAt (h .rows) i) ∷ []) → Sq W (‵ (fobs γ (T.the-row .coded .code h)) ∷ ‵ (fbor κ (Body (mem T.the-row) b o γ)) ∷ ‵ (flft κ q) ∷ ‵ (flft κ-room q-room) ∷ ‵ (finally u8 γ-room room) ∷ ‵ (froom Answer-row′.mir l0 0) ∷ ‵ (fat fullShare (tyRef (named 0) mut rec-ty) l1 0 (vptr b o)) ∷ ‵ (fat fullShare Call-row′.mir l2 0 y2) ∷ ‵ (fat fullShare Frame-row′.mir l3 0 (LL.val Frame-row.the-type Frame-row′.the-laws f)) ∷ ‵ (fat fullShare (sliceTy (tyRef (named 1) mut (tyInt w8))) l4 0 s-room) ∷ ‵ (froom out-ty l5 0) ∷ ‵ (froom (tyInt w8) l6 0) ∷ ‵ (froom Control-row′.mir l7 0) ∷ ‵ (froom (tyInt w64) l8 0) ∷ ‵ (froom Row′.mir l9 0) ∷ ‵ (froom (tyInt w8) l10 0) ∷ ‵ (froom (tyInt w8) l11 0) ∷ ‵ (froom Control-row′.mir l12 0) ∷ ‵ (froom (tyInt w64) l13 0) ∷ ‵ (froom Row′.mir l14 0) ∷ ‵ (froom out-ty l15 0) ∷ ‵ (froom Sync-row′.mir l16 0) ∷ ‵ (froom out-ty l17 0) ∷ ‵ (froom out-ty l18 0) ∷ ‵ (froom (tyInt w8) l19 0) ∷ ‵ (froom Ruling-row′.mir l20 0) ∷ ‵ (froom (tyInt w64) l21 0) ∷ ‵ (froom Row′.mir l22 0) ∷ ‵ (froom out-ty l23 0) ∷ ‵ (fat fullShare tyBool l24 0 y24) ∷ ‵ (fat fullShare Ruling-row′.mir l25 0 (LL.val Ruling-row.the-type Ruling-row′.the-laws r)) ∷ ‵ (fat fullShare (tyInt w64) l26 0 y26) ∷ ‵ (fat fullShare Row′.mir l27 0 (LL.val Row.the-type Row′.the-laws (rowAt (h .rows) i))) ∷ ‵ (froom out-ty l28 0) ∷ ‵ (froom Fault-row′.mir l29 0) ∷ ‵ (froom out-ty l30 0) ∷ ‵ (froom out-ty l31 0) ∷ ‵ (froom Answer-row′.mir l32 0) ∷ ‵ (froom T′.mir l33 0) ∷ ‵ (froom (tyRef erased mut rec-ty) l34 0) ∷ ‵ (froom (tyInt w64) l35 0) ∷ ‵ (froom tyPtr l36 0) ∷ ‵ (froom tyPtr l37 0) ∷ ‵ (froom Row′.mir l38 0) ∷ ‵ (froom (tyInt w64) l39 0) ∷ ‵ (froom tyPtr l40 0) ∷ ‵ (froom tyPtr l41 0) ∷ ‵ (froom Row′.mir l42 0) ∷ ‵ (froom (tyRef erased mut rec-ty) l43 0) ∷ ‵ (froom T′.mir l44 0) ∷ ‵ (froom (tyRef erased mut rec-ty) l45 0) ∷ ‵ (froom T′.mir l46 0) ∷ ‵ (froom (tyRef erased mut rec-ty) l47 0) ∷ ‵ (froom T′.mir l48 0) ∷ ‵ (froom (tyInt w64) l49 0) ∷ ‵ (froom tyPtr l50 0) ∷ ‵ (froom tyPtr l51 0) ∷ ‵ (froom Row′.mir l52 0) ∷ ‵ (froom (tyRef erased mut (tyInt w8)) l53 0) ∷ ‵ (froom (sliceTy (tyRef erased mut (tyInt w8))) l54 0) ∷ ‵ (froom (tyRef erased mut rec-ty) l55 0) ∷ ‵ (fat fullShare T′.mir l56 0 y56) ∷ ‵ (fat fullShare (tyInt w64) l57 0 y57) ∷ ‵ (fat fullShare tyPtr l58 0 y58) ∷ ‵ (fat fullShare tyPtr l59 0 y59) ∷ ‵ (fat fullShare Row′.mir l60 0 y60) ∷ ‵ (froom (tyRef erased mut rec-ty) l61 0) ∷ ‵ (froom T′.mir l62 0) ∷ ‵ (froom (tyRef erased mut rec-ty) l63 0) ∷ ‵ (froom T′.mir l64 0) ∷ ‵ (froom (tyRef erased mut rec-ty) l65 0) ∷ Dies) (runs C Λ En code-making-ruling (anyQ (Next call)))
-        making-ruling r r-is e z i p sixteen k-is =
-            use0 W (raw ((Frameds 𝓤 H A at-mem run) .pre (to-framed r (rowAt (h .rows) i)))) (asked-framed r (rowAt (h .rows) i) r-is k-is) $
-            calls-at ! fm (Frameds 𝓤 H A at-mem run) known-frameds (to-framed r (rowAt (h .rows) i)) (and-then ! (load ! (from ! (stop !)) (look ! 31 refl)) (and-then ! (load ! (from ! (stop !)) (look ! 33 refl)) (and-then ! (load ! (from ! (stop !)) (look ! 9 refl)) (no-more !)))) (λ v.
-            use1 W (later (some (λ (x : Change). (‵ ftrue ⊛ ‵ (S.the-row .own x (v ∷ []))) ⊛ raw (ensured 𝓤 H A frameds.ended (frameds.clauses 𝓤 H A at-mem run) tt (args-framed r (rowAt (h .rows) i)) tt x)))) (id⊢ 𝓤 _) $ await ! tt $ pick ! (λ x.
-            split ! $ move ! (1 ∷ []) $ use1 W (some (λ (ws : Lasts frameds.ended tt (args-framed r (rowAt (h .rows) i))). ‵ (lasts frameds.ended tt (args-framed r (rowAt (h .rows) i)) ws) ⊛ raw (fact 𝓤 ((c : Controller) → length (c .rows) ≡ 16 → rowAt (h .rows) i ≡ rowAt (c .rows) (rowOf (r .verdict)) → changed c x ≡ ruled c (bytesIn f) r)))) (id⊢ 𝓤 _) $ pick ! (λ ws.
-            split ! $ move ! (1 ∷ []) $ heard ! ((c : Controller) → length (c .rows) ≡ 16 → rowAt (h .rows) i ≡ rowAt (c .rows) (rowOf (r .verdict)) → changed c x ≡ ruled c (bytesIn f) r) (λ d. drop ! $ split ! $ drop ! $
-            peeks ! S.the-row (Is S.the-row) (shows 𝓤 H A S.the-row) x (v ∷ []) (λ is. drop ! $
-            land ! (from ! (stop !)) (init ! 33 refl (LL.lawful S.the-type S′.the-laws 𝓤 H A W .typed x _ is .0)) $ rewrite ! 33 (λ (u : Val). ‵ (fat fullShare out-ty l28 0 u)) (ap only (LL.tells S.the-type S′.the-laws x _ is)) refl $
-            carried-ruling x (change-is x _ is) (d h sixteen (ap (rowAt (h .rows)) p) ∙ e) room z refl)))))
-
-        -- the row is read
-        reading-ruling : {y2 y24 y56 : Val} (r : Ruling) → Is Ruling-row.the-row r (LL.val Ruling-row.the-type Ruling-row′.the-laws r ∷ []) → ruled h (bytesIn f) r ≡ doneOf (stepOf h (stepFor call (bytesIn f) room)) → room ≡ roomFor h call room → (i : ℕ) → i ≡ rowOf (r .verdict) → Sq W (‵ (fobs γ (T.the-row .coded .code h)) ∷ ‵ (fbor κ (Body (mem T.the-row) b o γ)) ∷ ‵ (flft κ q) ∷ ‵ (flft κ-room q-room) ∷ ‵ (finally u8 γ-room room) ∷ ‵ (froom Answer-row′.mir l0 0) ∷ ‵ (fat fullShare (tyRef (named 0) mut rec-ty) l1 0 (vptr b o)) ∷ ‵ (fat fullShare Call-row′.mir l2 0 y2) ∷ ‵ (fat fullShare Frame-row′.mir l3 0 (LL.val Frame-row.the-type Frame-row′.the-laws f)) ∷ ‵ (fat fullShare (sliceTy (tyRef (named 1) mut (tyInt w8))) l4 0 s-room) ∷ ‵ (froom out-ty l5 0) ∷ ‵ (froom (tyInt w8) l6 0) ∷ ‵ (froom Control-row′.mir l7 0) ∷ ‵ (froom (tyInt w64) l8 0) ∷ ‵ (froom Row′.mir l9 0) ∷ ‵ (froom (tyInt w8) l10 0) ∷ ‵ (froom (tyInt w8) l11 0) ∷ ‵ (froom Control-row′.mir l12 0) ∷ ‵ (froom (tyInt w64) l13 0) ∷ ‵ (froom Row′.mir l14 0) ∷ ‵ (froom out-ty l15 0) ∷ ‵ (froom Sync-row′.mir l16 0) ∷ ‵ (froom out-ty l17 0) ∷ ‵ (froom out-ty l18 0) ∷ ‵ (froom (tyInt w8) l19 0) ∷ ‵ (froom Ruling-row′.mir l20 0) ∷ ‵ (froom (tyInt w64) l21 0) ∷ ‵ (froom Row′.mir l22 0) ∷ ‵ (froom out-ty l23 0) ∷ ‵ (fat fullShare tyBool l24 0 y24) ∷ ‵ (fat fullShare Ruling-row′.mir l25 0 (LL.val Ruling-row.the-type Ruling-row′.the-laws r)) ∷ ‵ (fat fullShare (tyInt w64) l26 0 (vint w64 i)) ∷ ‵ (froom Row′.mir l27 0) ∷ ‵ (froom out-ty l28 0) ∷ ‵ (froom Fault-row′.mir l29 0) ∷ ‵ (froom out-ty l30 0) ∷ ‵ (froom out-ty l31 0) ∷ ‵ (froom Answer-row′.mir l32 0) ∷ ‵ (froom T′.mir l33 0) ∷ ‵ (froom (tyRef erased mut rec-ty) l34 0) ∷ ‵ (froom (tyInt w64) l35 0) ∷ ‵ (froom tyPtr l36 0) ∷ ‵ (froom tyPtr l37 0) ∷ ‵ (froom Row′.mir l38 0) ∷ ‵ (froom (tyInt w64) l39 0) ∷ ‵ (froom tyPtr l40 0) ∷ ‵ (froom tyPtr l41 0) ∷ ‵ (froom Row′.mir l42 0) ∷ ‵ (froom (tyRef erased mut rec-ty) l43 0) ∷ ‵ (froom T′.mir l44 0) ∷ ‵ (froom (tyRef erased mut rec-ty) l45 0) ∷ ‵ (froom T′.mir l46 0) ∷ ‵ (froom (tyRef erased mut rec-ty) l47 0) ∷ ‵ (froom T′.mir l48 0) ∷ ‵ (froom (tyInt w64) l49 0) ∷ ‵ (froom tyPtr l50 0) ∷ ‵ (froom tyPtr l51 0) ∷ ‵ (froom Row′.mir l52 0) ∷ ‵ (froom (tyRef erased mut (tyInt w8)) l53 0) ∷ ‵ (froom (sliceTy (tyRef erased mut (tyInt w8))) l54 0) ∷ ‵ (froom (tyRef erased mut rec-ty) l55 0) ∷ ‵ (fat fullShare T′.mir l56 0 y56) ∷ ‵ (froom (tyInt w64) l57 0) ∷ ‵ (froom tyPtr l58 0) ∷ ‵ (froom tyPtr l59 0) ∷ ‵ (froom Row′.mir l60 0) ∷ ‵ (froom (tyRef erased mut rec-ty) l61 0) ∷ ‵ (froom T′.mir l62 0) ∷ ‵ (froom (tyRef erased mut rec-ty) l63 0) ∷ ‵ (froom T′.mir l64 0) ∷ ‵ (froom (tyRef erased mut rec-ty) l65 0) ∷ Dies) (runs C Λ En code-reading-ruling (anyQ (Next call)))
-        reading-ruling r r-is e z i p =
+        -- Fault
+        on-fault : {y2 : Val} (k : FaultKind) → Is Fault-row.the-row k (EL.val Fault-row.the-type Fault-row′.the-laws k ∷ []) → fault k ≡ stepFor call (bytesIn f) room → room ≡ roomFor h call room → Sq W (‵ Rec ∷ ‵ (flft κ q) ∷ ‵ Room′ ∷ ‵ (flft κ-room q-room) ∷ ‵ (froom Answer-row′.mir l0 0) ∷ ‵ (fat fullShare (tyRef (named 0) mut rec-ty) l1 0 (vptr b o)) ∷ ‵ (fat fullShare Call-row′.mir l2 0 y2) ∷ ‵ (fat fullShare Frame-row′.mir l3 0 (LL.val Frame-row.the-type Frame-row′.the-laws f)) ∷ ‵ (fat fullShare (sliceTy (tyRef (named 1) mut (tyInt w8))) l4 0 s-room) ∷ ‵ (froom out-ty l5 0) ∷ ‵ (froom (tyInt w8) l6 0) ∷ ‵ (froom Control-row′.mir l7 0) ∷ ‵ (froom (tyInt w64) l8 0) ∷ ‵ (froom Row′.mir l9 0) ∷ ‵ (froom (tyInt w8) l10 0) ∷ ‵ (froom (tyInt w8) l11 0) ∷ ‵ (froom Sync-row′.mir l12 0) ∷ ‵ (froom out-ty l13 0) ∷ ‵ (froom out-ty l14 0) ∷ ‵ (froom (tyInt w8) l15 0) ∷ ‵ (froom Ruling-row′.mir l16 0) ∷ ‵ (froom (tyInt w64) l17 0) ∷ ‵ (froom Row′.mir l18 0) ∷ ‵ (froom out-ty l19 0) ∷ ‵ (froom tyBool l20 0) ∷ ‵ (froom Ruling-row′.mir l21 0) ∷ ‵ (froom (tyInt w64) l22 0) ∷ ‵ (froom Row′.mir l23 0) ∷ ‵ (froom out-ty l24 0) ∷ ‵ (fat fullShare Fault-row′.mir l25 0 (EL.val Fault-row.the-type Fault-row′.the-laws k)) ∷ ‵ (froom out-ty l26 0) ∷ ‵ (froom out-ty l27 0) ∷ ‵ (froom Answer-row′.mir l28 0) ∷ ‵ (froom T′.mir l29 0) ∷ ‵ (froom (tyRef erased mut rec-ty) l30 0) ∷ ‵ (froom (tyInt w64) l31 0) ∷ ‵ (froom tyPtr l32 0) ∷ ‵ (froom tyPtr l33 0) ∷ ‵ (froom Row′.mir l34 0) ∷ ‵ (froom (tyRef erased mut rec-ty) l35 0) ∷ ‵ (froom T′.mir l36 0) ∷ ‵ (froom (tyRef erased mut rec-ty) l37 0) ∷ ‵ (froom T′.mir l38 0) ∷ ‵ (froom (tyRef erased mut rec-ty) l39 0) ∷ ‵ (froom T′.mir l40 0) ∷ ‵ (froom (tyInt w64) l41 0) ∷ ‵ (froom tyPtr l42 0) ∷ ‵ (froom tyPtr l43 0) ∷ ‵ (froom Row′.mir l44 0) ∷ ‵ (froom (tyRef erased mut (tyInt w8)) l45 0) ∷ ‵ (froom (sliceTy (tyRef erased mut (tyInt w8))) l46 0) ∷ ‵ (froom (tyRef erased mut rec-ty) l47 0) ∷ ‵ (froom T′.mir l48 0) ∷ ‵ (froom (tyInt w64) l49 0) ∷ ‵ (froom tyPtr l50 0) ∷ ‵ (froom tyPtr l51 0) ∷ ‵ (froom Row′.mir l52 0) ∷ ‵ (froom (tyRef erased mut rec-ty) l53 0) ∷ ‵ (froom T′.mir l54 0) ∷ ‵ (froom (tyRef erased mut rec-ty) l55 0) ∷ ‵ (froom T′.mir l56 0) ∷ ‵ (froom (tyRef erased mut rec-ty) l57 0) ∷ Dies) (runs C Λ En code-fault (anyQ (Next call)))
+        on-fault k k-is s z =
+            fsplit3 ! $ drop ! $
             opens ! tt T.the-row {h = h} b o (λ vs. spelt ! T.the-row (Is T.the-row) (shows 𝓤 H A T.the-row) (LL.vals T.the-type T′.the-laws) (LL.tells T.the-type T′.the-laws) fullShare h vs b o $
             move ! (1 ∷ []) $ peeks ! T.the-row (Is T.the-row) (shows 𝓤 H A T.the-row) h (mach h ∷ []) (λ was.
-            assigns ! (bin ! (load ! (from ! (stop !)) (look ! 33 refl)) (lit ! tt) (record { fits = byte-fits i (row-below (r .verdict) i p) })) (from ! (stop !)) (init ! 64 refl (tt, record { fits = byte-fits i (row-below (r .verdict) i p) })) $
-            assigns ! (addr ! (from ! (hop ! (look ! 8 refl) (fld ! refl (stop !))))) (from ! (stop !)) (init ! 65 refl (tt, tt)) $
-            assigns ! (bin ! (load ! (from ! (stop !)) (look ! 65 refl)) (load ! (from ! (stop !)) (look ! 64 refl)) tt) (from ! (stop !)) (init ! 66 refl (tt, tt)) $
-            rewrite ! 66 (λ (m : ℕ). ‵ (fat fullShare tyPtr l59 0 (vptr b m))) (sym (place-is 14 (o + at-rows) i)) refl $
-            move ! (1 ∷ []) $ use1 W (‵ (fat fullShare T′.mir b o (mach h))) (W .laws .raw-at fullShare T′.mir b o (mach h)) $
-            assigns ! (of-opd ! (load ! (from ! (hop ! (look ! 66 refl) (stop !))) (look-in ! 0 (elem-at ! (values (h .rows)) i (LL.val Row.the-type Row′.the-laws noContents) (LL.val Row.the-type Row′.the-laws (rowAt (h .rows) i)) (value-at (h .rows) i) (in-rows h was i (row-below (r .verdict) i p)) (sixteen-values h was) (sub ! 1 refl (whole !)))))) (from ! (stop !)) (init ! 67 refl (LL.lawful Row.the-type Row′.the-laws 𝓤 H A W .typed (rowAt (h .rows) i) _ (row-is h was i (row-below (r .verdict) i p)) .0)) $
-            use1 W (‵ (cellAt fullShare (T.the-row .mir) (mach h ∷ []) b o)) (W .laws .at-raw fullShare T′.mir b o (mach h)) $
-            closes ! tt T.the-row h (mach h ∷ []) b o $
-            assigns ! (of-opd ! (load ! (from ! (stop !)) (look ! 65 refl))) (from ! (stop !)) (init ! 32 refl (LL.lawful Row.the-type Row′.the-laws 𝓤 H A W .typed (rowAt (h .rows) i) _ (row-is h was i (row-below (r .verdict) i p)) .0)) $
-            making-ruling r r-is e z i p (sixteen-rows h was) (row-is h was i (row-below (r .verdict) i p))))
+            assigns ! (of-opd ! (load ! (from ! (hop ! (look ! 8 refl) (stop !))) (look-raw ! 1 refl))) (from ! (stop !)) (init ! 61 refl (LL.lawful T.the-type T′.the-laws 𝓤 H A W .typed h _ was .0)) $
+            move ! (1 ∷ 0 ∷ 2 ∷ 3 ∷ 4 ∷ []) $ closes ! tt T.the-row h (mach h ∷ []) b o $
+            move ! (3 ∷ []) $ fsplit ! $ move ! (1 ∷ []) $ fsplit ! $
+            use1 W (‵ (fres γ-room (codedHoleys u8 .code (heres u8 room)))) (W .names .obs-res γ-room (codedHoleys u8 .code (heres u8 room))) $ use1 W (‵ (finally u8 γ-room room)) (res-finally 𝓤 H A W (named 1) κ-room u8 γ-room room) $
+            use0 W (raw ((Faults 𝓤 H A at-mem run) .pre (to-fault k))) (asked-fault k k-is was) $
+            calls-at ! fm (Faults 𝓤 H A at-mem run) known-faults (to-fault k) (and-then ! (load ! (from ! (stop !)) (look ! 62 refl)) (and-then ! (load ! (from ! (stop !)) (look ! 33 refl)) (no-more !))) (λ v.
+            use1 W (later (some (λ (x : Change). (‵ ftrue ⊛ ‵ (S.the-row .own x (v ∷ []))) ⊛ raw (ensured 𝓤 H A faults.ended (faults.clauses 𝓤 H A at-mem run) tt (args-fault k) tt x)))) (id⊢ 𝓤 _) $ await ! tt $ pick ! (λ x.
+            split ! $ move ! (1 ∷ []) $ use1 W (some (λ (ws : Lasts faults.ended tt (args-fault k)). ‵ (lasts faults.ended tt (args-fault k) ws) ⊛ raw (fact 𝓤 (changed h x ≡ doneOf (stepOf h (fault k)))))) (id⊢ 𝓤 _) $ pick ! (λ ws.
+            split ! $ move ! (1 ∷ []) $ heard ! (changed h x ≡ doneOf (stepOf h (fault k))) (λ e. drop ! $ split ! $ drop ! $
+            peeks ! S.the-row (Is S.the-row) (shows 𝓤 H A S.the-row) x (v ∷ []) (λ is. drop ! $
+            land ! (from ! (stop !)) (init ! 33 refl (LL.lawful S.the-type S′.the-laws 𝓤 H A W .typed x _ is .0)) $ rewrite ! 33 (λ (u : Val). ‵ (fat fullShare out-ty l26 0 u)) (ap only (LL.tells S.the-type S′.the-laws x _ is)) refl $
+            keep ! (3 ∷ 4 ∷ 5 ∷ 6 ∷ 0 ∷ 7 ∷ 8 ∷ 9 ∷ 10 ∷ 11 ∷ 12 ∷ 13 ∷ 14 ∷ 15 ∷ 16 ∷ 17 ∷ 18 ∷ 19 ∷ 20 ∷ 21 ∷ 22 ∷ 23 ∷ 24 ∷ 25 ∷ 26 ∷ 27 ∷ 28 ∷ 29 ∷ 30 ∷ 31 ∷ 32 ∷ 33 ∷ 34 ∷ 35 ∷ 36 ∷ 37 ∷ 38 ∷ 39 ∷ 40 ∷ 41 ∷ 42 ∷ 43 ∷ 44 ∷ 45 ∷ 46 ∷ 47 ∷ 48 ∷ 49 ∷ 50 ∷ 51 ∷ 52 ∷ 53 ∷ 54 ∷ 55 ∷ 56 ∷ 57 ∷ 58 ∷ 59 ∷ 60 ∷ 61 ∷ 62 ∷ 63 ∷ 64 ∷ 65 ∷ 66 ∷ 67 ∷ 68 ∷ 69 ∷ 70 ∷ 71 ∷ 72 ∷ 73 ∷ 74 ∷ 75 ∷ 76 ∷ 77 ∷ 78 ∷ 79 ∷ 80 ∷ 81 ∷ 82 ∷ 83 ∷ 84 ∷ 85 ∷ 86 ∷ 87 ∷ 88 ∷ 89 ∷ 90 ∷ 91 ∷ 92 ∷ 93 ∷ 94 ∷ 95 ∷ 96 ∷ 97 ∷ 98 ∷ 99 ∷ 100 ∷ 101 ∷ 102 ∷ 103 ∷ 104 ∷ 105 ∷ 106 ∷ 107 ∷ 108 ∷ 109 ∷ 110 ∷ 111 ∷ 112 ∷ 113 ∷ 114 ∷ 115 ∷ 116 ∷ 117 ∷ 118 ∷ 119 ∷ 120 ∷ 121 ∷ 122 ∷ []) $ carried-fault x (change-is x _ is) (e ∙ ap (λ (s : Step). doneOf (stepOf h s)) s) room z refl)))))))
 
-        -- the row to look at
-        finding-ruling : {y2 y24 y56 : Val} (r : Ruling) → Is Ruling-row.the-row r (LL.val Ruling-row.the-type Ruling-row′.the-laws r ∷ []) → ruled h (bytesIn f) r ≡ doneOf (stepOf h (stepFor call (bytesIn f) room)) → room ≡ roomFor h call room → Sq W (‵ (fobs γ (T.the-row .coded .code h)) ∷ ‵ (fbor κ (Body (mem T.the-row) b o γ)) ∷ ‵ (flft κ q) ∷ ‵ (flft κ-room q-room) ∷ ‵ (finally u8 γ-room room) ∷ ‵ (froom Answer-row′.mir l0 0) ∷ ‵ (fat fullShare (tyRef (named 0) mut rec-ty) l1 0 (vptr b o)) ∷ ‵ (fat fullShare Call-row′.mir l2 0 y2) ∷ ‵ (fat fullShare Frame-row′.mir l3 0 (LL.val Frame-row.the-type Frame-row′.the-laws f)) ∷ ‵ (fat fullShare (sliceTy (tyRef (named 1) mut (tyInt w8))) l4 0 s-room) ∷ ‵ (froom out-ty l5 0) ∷ ‵ (froom (tyInt w8) l6 0) ∷ ‵ (froom Control-row′.mir l7 0) ∷ ‵ (froom (tyInt w64) l8 0) ∷ ‵ (froom Row′.mir l9 0) ∷ ‵ (froom (tyInt w8) l10 0) ∷ ‵ (froom (tyInt w8) l11 0) ∷ ‵ (froom Control-row′.mir l12 0) ∷ ‵ (froom (tyInt w64) l13 0) ∷ ‵ (froom Row′.mir l14 0) ∷ ‵ (froom out-ty l15 0) ∷ ‵ (froom Sync-row′.mir l16 0) ∷ ‵ (froom out-ty l17 0) ∷ ‵ (froom out-ty l18 0) ∷ ‵ (froom (tyInt w8) l19 0) ∷ ‵ (froom Ruling-row′.mir l20 0) ∷ ‵ (froom (tyInt w64) l21 0) ∷ ‵ (froom Row′.mir l22 0) ∷ ‵ (froom out-ty l23 0) ∷ ‵ (fat fullShare tyBool l24 0 y24) ∷ ‵ (fat fullShare Ruling-row′.mir l25 0 (LL.val Ruling-row.the-type Ruling-row′.the-laws r)) ∷ ‵ (froom (tyInt w64) l26 0) ∷ ‵ (froom Row′.mir l27 0) ∷ ‵ (froom out-ty l28 0) ∷ ‵ (froom Fault-row′.mir l29 0) ∷ ‵ (froom out-ty l30 0) ∷ ‵ (froom out-ty l31 0) ∷ ‵ (froom Answer-row′.mir l32 0) ∷ ‵ (froom T′.mir l33 0) ∷ ‵ (froom (tyRef erased mut rec-ty) l34 0) ∷ ‵ (froom (tyInt w64) l35 0) ∷ ‵ (froom tyPtr l36 0) ∷ ‵ (froom tyPtr l37 0) ∷ ‵ (froom Row′.mir l38 0) ∷ ‵ (froom (tyInt w64) l39 0) ∷ ‵ (froom tyPtr l40 0) ∷ ‵ (froom tyPtr l41 0) ∷ ‵ (froom Row′.mir l42 0) ∷ ‵ (froom (tyRef erased mut rec-ty) l43 0) ∷ ‵ (froom T′.mir l44 0) ∷ ‵ (froom (tyRef erased mut rec-ty) l45 0) ∷ ‵ (froom T′.mir l46 0) ∷ ‵ (froom (tyRef erased mut rec-ty) l47 0) ∷ ‵ (froom T′.mir l48 0) ∷ ‵ (froom (tyInt w64) l49 0) ∷ ‵ (froom tyPtr l50 0) ∷ ‵ (froom tyPtr l51 0) ∷ ‵ (froom Row′.mir l52 0) ∷ ‵ (froom (tyRef erased mut (tyInt w8)) l53 0) ∷ ‵ (froom (sliceTy (tyRef erased mut (tyInt w8))) l54 0) ∷ ‵ (froom (tyRef erased mut rec-ty) l55 0) ∷ ‵ (fat fullShare T′.mir l56 0 y56) ∷ ‵ (froom (tyInt w64) l57 0) ∷ ‵ (froom tyPtr l58 0) ∷ ‵ (froom tyPtr l59 0) ∷ ‵ (froom Row′.mir l60 0) ∷ ‵ (froom (tyRef erased mut rec-ty) l61 0) ∷ ‵ (froom T′.mir l62 0) ∷ ‵ (froom (tyRef erased mut rec-ty) l63 0) ∷ ‵ (froom T′.mir l64 0) ∷ ‵ (froom (tyRef erased mut rec-ty) l65 0) ∷ Dies) (runs C Λ En code-finding-ruling (anyQ (Next call)))
-        finding-ruling r r-is e z =
-            use0 W (raw ((Rows 𝓤 H A at-mem run) .pre (to-rows r))) (asked-rows r r-is) $
-            calls-at ! fm (Rows 𝓤 H A at-mem run) known-rows (to-rows r) (and-then ! (load ! (from ! (stop !)) (look ! 31 refl)) (no-more !)) (λ v.
-            use1 W (later (some (λ (i : ℕ). (‵ ftrue ⊛ ‵ (usize .own i (v ∷ []))) ⊛ raw (ensured 𝓤 H A rows.ended (rows.clauses 𝓤 H A at-mem run) tt (r, tt) tt i)))) (id⊢ 𝓤 _) $ await ! tt $ pick ! (λ i.
-            split ! $ move ! (1 ∷ []) $ use1 W (some (λ (ws : Lasts rows.ended tt (r, tt)). ‵ (lasts rows.ended tt (r, tt) ws) ⊛ raw (fact 𝓤 (i ≡ rowOf (r .verdict))))) (id⊢ 𝓤 _) $ pick ! (λ ws.
-            split ! $ move ! (1 ∷ []) $ heard ! (i ≡ rowOf (r .verdict)) (λ p. drop ! $ split ! $ drop ! $
-            peeks ! usize (Is usize) (shows 𝓤 H A usize) i (v ∷ []) (λ is. drop ! $
-            land ! (from ! (stop !)) (init ! 31 refl (uint-lawful 𝓤 H A W w64 .typed i _ is .0)) $ rewrite ! 31 (λ (u : Val). ‵ (fat fullShare (tyInt w64) l26 0 u)) (ap only (is .0)) refl $
-            reading-ruling r r-is e z i p)))))
+        -- what `Timeout` changes is carried out
+        carried-timeout : {y2 y56 : Val} (x : Change) → Is S.the-row x (LL.val S.the-type S′.the-laws x ∷ []) → changed h x ≡ doneOf (stepOf h (stepFor call (bytesIn f) room)) → (zs : List ℕ) → zs ≡ roomFor h call room → length zs ≡ length room → Sq W (‵ (fobs γ (T.the-row .coded .code h)) ∷ ‵ (fbor κ (Body (mem T.the-row) b o γ)) ∷ ‵ (flft κ q) ∷ ‵ (flft κ-room q-room) ∷ ‵ (finally u8 γ-room zs) ∷ ‵ (froom Answer-row′.mir l0 0) ∷ ‵ (fat fullShare (tyRef (named 0) mut rec-ty) l1 0 (vptr b o)) ∷ ‵ (fat fullShare Call-row′.mir l2 0 y2) ∷ ‵ (fat fullShare Frame-row′.mir l3 0 (LL.val Frame-row.the-type Frame-row′.the-laws f)) ∷ ‵ (fat fullShare (sliceTy (tyRef (named 1) mut (tyInt w8))) l4 0 s-room) ∷ ‵ (froom out-ty l5 0) ∷ ‵ (froom (tyInt w8) l6 0) ∷ ‵ (froom Control-row′.mir l7 0) ∷ ‵ (froom (tyInt w64) l8 0) ∷ ‵ (froom Row′.mir l9 0) ∷ ‵ (froom (tyInt w8) l10 0) ∷ ‵ (froom (tyInt w8) l11 0) ∷ ‵ (froom Sync-row′.mir l12 0) ∷ ‵ (froom out-ty l13 0) ∷ ‵ (froom out-ty l14 0) ∷ ‵ (froom (tyInt w8) l15 0) ∷ ‵ (froom Ruling-row′.mir l16 0) ∷ ‵ (froom (tyInt w64) l17 0) ∷ ‵ (froom Row′.mir l18 0) ∷ ‵ (froom out-ty l19 0) ∷ ‵ (froom tyBool l20 0) ∷ ‵ (froom Ruling-row′.mir l21 0) ∷ ‵ (froom (tyInt w64) l22 0) ∷ ‵ (froom Row′.mir l23 0) ∷ ‵ (froom out-ty l24 0) ∷ ‵ (froom Fault-row′.mir l25 0) ∷ ‵ (froom out-ty l26 0) ∷ ‵ (fat fullShare out-ty l27 0 (LL.val S.the-type S′.the-laws x)) ∷ ‵ (froom Answer-row′.mir l28 0) ∷ ‵ (froom T′.mir l29 0) ∷ ‵ (froom (tyRef erased mut rec-ty) l30 0) ∷ ‵ (froom (tyInt w64) l31 0) ∷ ‵ (froom tyPtr l32 0) ∷ ‵ (froom tyPtr l33 0) ∷ ‵ (froom Row′.mir l34 0) ∷ ‵ (froom (tyRef erased mut rec-ty) l35 0) ∷ ‵ (froom T′.mir l36 0) ∷ ‵ (froom (tyRef erased mut rec-ty) l37 0) ∷ ‵ (froom T′.mir l38 0) ∷ ‵ (froom (tyRef erased mut rec-ty) l39 0) ∷ ‵ (froom T′.mir l40 0) ∷ ‵ (froom (tyInt w64) l41 0) ∷ ‵ (froom tyPtr l42 0) ∷ ‵ (froom tyPtr l43 0) ∷ ‵ (froom Row′.mir l44 0) ∷ ‵ (froom (tyRef erased mut (tyInt w8)) l45 0) ∷ ‵ (froom (sliceTy (tyRef erased mut (tyInt w8))) l46 0) ∷ ‵ (froom (tyRef erased mut rec-ty) l47 0) ∷ ‵ (froom T′.mir l48 0) ∷ ‵ (froom (tyInt w64) l49 0) ∷ ‵ (froom tyPtr l50 0) ∷ ‵ (froom tyPtr l51 0) ∷ ‵ (froom Row′.mir l52 0) ∷ ‵ (froom (tyRef erased mut rec-ty) l53 0) ∷ ‵ (froom T′.mir l54 0) ∷ ‵ (froom (tyRef erased mut rec-ty) l55 0) ∷ ‵ (fat fullShare T′.mir l56 0 y56) ∷ ‵ (froom (tyRef erased mut rec-ty) l57 0) ∷ Dies) (runs C Λ En (carrying 57 27) (anyQ (Next call)))
+        carried-timeout x x-is e zs z l =
+            assigns ! (addr ! (from ! (hop ! (look ! 6 refl) (stop !)))) (from ! (stop !)) (init ! 62 refl (tt, tt)) $
+            group ! 3 $ use1 W (raw ((Carries 𝓤 H A at-mem run) .pre (to-carry x))) (asked-carry x x-is) $
+            calls-at-last ! fm (Carries 𝓤 H A at-mem run) known-carries (to-carry x) (and-then ! (load ! (from ! (stop !)) (look ! 60 refl)) (and-then ! (load ! (from ! (stop !)) (look ! 30 refl)) (no-more !))) (λ v.
+            use1 W (later (some (λ (m : Answer). ((‵ (flft κ q) ⊛ ‵ ftrue) ⊛ ‵ (Answer-row.the-row .own m (v ∷ []))) ⊛ raw (ensured 𝓤 H A carries.ended (carries.clauses 𝓤 H A at-mem run) (κ, tt) (args-carry x) tt m)))) (id⊢ 𝓤 _) $ await ! tt $ pick ! (λ m.
+            split ! $ move ! (1 ∷ []) $ use1 W (some (λ (ws : Lasts carries.ended (κ, tt) (args-carry x)). ‵ (lasts carries.ended (κ, tt) (args-carry x) ws) ⊛ raw (fact 𝓤 ((ws .0 ≡ changed h x .next) × (m ≡ x .answer))))) (id⊢ 𝓤 _) $ pick ! (λ ws.
+            split ! $ move ! (1 ∷ []) $ heard ! ((ws .0 ≡ changed h x .next) × (m ≡ x .answer)) (λ d. fsplit ! $
+            move ! (2 ∷ []) $ split ! $ move ! (1 ∷ []) $ peeks ! Answer-row.the-row (Is Answer-row.the-row) (shows 𝓤 H A Answer-row.the-row) m (v ∷ []) (λ is. drop ! $ split ! $
+            land-last ! (from ! (stop !)) (init ! 34 refl (EL.lawful Answer-row.the-type Answer-row′.the-laws 𝓤 H A W tt .typed m _ is .0)) $ rewrite ! 34 (λ (u : Val). ‵ (fat fullShare Answer-row′.mir l28 0 u)) (ap only (EL.tells Answer-row.the-type Answer-row′.the-laws m _ is)) refl $
+            exec ! C Λ En pieces.t-2 (atRet En (Post call)) $ forget ! 33 refl $ forget ! 62 refl $ forget ! 63 refl $
+            keep ! (2 ∷ 0 ∷ 4 ∷ 5 ∷ 6 ∷ 7 ∷ 8 ∷ 9 ∷ 10 ∷ 11 ∷ 12 ∷ 13 ∷ 14 ∷ 15 ∷ 16 ∷ 17 ∷ 18 ∷ 19 ∷ 20 ∷ 21 ∷ 22 ∷ 23 ∷ 24 ∷ 25 ∷ 26 ∷ 27 ∷ 28 ∷ 29 ∷ 30 ∷ 31 ∷ 32 ∷ 33 ∷ 34 ∷ 35 ∷ 36 ∷ 37 ∷ 38 ∷ 39 ∷ 40 ∷ 41 ∷ 42 ∷ 43 ∷ 44 ∷ 45 ∷ 46 ∷ 47 ∷ 48 ∷ 49 ∷ 50 ∷ 51 ∷ 52 ∷ 53 ∷ 54 ∷ 55 ∷ 56 ∷ 57 ∷ 58 ∷ 59 ∷ 60 ∷ 61 ∷ 62 ∷ 63 ∷ 64 ∷ 65 ∷ 66 ∷ 67 ∷ 68 ∷ 69 ∷ 70 ∷ 71 ∷ 72 ∷ 73 ∷ 74 ∷ 75 ∷ 76 ∷ 77 ∷ 78 ∷ 79 ∷ 80 ∷ 81 ∷ 82 ∷ 83 ∷ 84 ∷ 85 ∷ 86 ∷ 87 ∷ 88 ∷ 89 ∷ 90 ∷ 91 ∷ 92 ∷ 93 ∷ 94 ∷ 95 ∷ 96 ∷ 97 ∷ 98 ∷ 99 ∷ 100 ∷ 101 ∷ 102 ∷ 103 ∷ 104 ∷ 105 ∷ 106 ∷ 107 ∷ 108 ∷ 109 ∷ 110 ∷ 111 ∷ 112 ∷ 113 ∷ 114 ∷ 115 ∷ 116 ∷ 117 ∷ 118 ∷ 119 ∷ 120 ∷ 121 ∷ []) $ answered (ws .0) m zs (d .0 ∙ ap (λ (u : Done). u .next) e, d .1 ∙ ap (λ (u : Done). u .answer) e, z) (answer-is m _ is) l)))))
 
-        -- Frame
-        on-ruling : {y2 : Val} (good : Bool) → frameStep good (bytesIn f) ≡ stepFor call (bytesIn f) room → room ≡ roomFor h call room → Sq W (‵ Rec ∷ ‵ (flft κ q) ∷ ‵ Room′ ∷ ‵ (flft κ-room q-room) ∷ ‵ (froom Answer-row′.mir l0 0) ∷ ‵ (fat fullShare (tyRef (named 0) mut rec-ty) l1 0 (vptr b o)) ∷ ‵ (fat fullShare Call-row′.mir l2 0 y2) ∷ ‵ (fat fullShare Frame-row′.mir l3 0 (LL.val Frame-row.the-type Frame-row′.the-laws f)) ∷ ‵ (fat fullShare (sliceTy (tyRef (named 1) mut (tyInt w8))) l4 0 s-room) ∷ ‵ (froom out-ty l5 0) ∷ ‵ (froom (tyInt w8) l6 0) ∷ ‵ (froom Control-row′.mir l7 0) ∷ ‵ (froom (tyInt w64) l8 0) ∷ ‵ (froom Row′.mir l9 0) ∷ ‵ (froom (tyInt w8) l10 0) ∷ ‵ (froom (tyInt w8) l11 0) ∷ ‵ (froom Control-row′.mir l12 0) ∷ ‵ (froom (tyInt w64) l13 0) ∷ ‵ (froom Row′.mir l14 0) ∷ ‵ (froom out-ty l15 0) ∷ ‵ (froom Sync-row′.mir l16 0) ∷ ‵ (froom out-ty l17 0) ∷ ‵ (froom out-ty l18 0) ∷ ‵ (froom (tyInt w8) l19 0) ∷ ‵ (froom Ruling-row′.mir l20 0) ∷ ‵ (froom (tyInt w64) l21 0) ∷ ‵ (froom Row′.mir l22 0) ∷ ‵ (froom out-ty l23 0) ∷ ‵ (fat fullShare tyBool l24 0 (vbool good)) ∷ ‵ (froom Ruling-row′.mir l25 0) ∷ ‵ (froom (tyInt w64) l26 0) ∷ ‵ (froom Row′.mir l27 0) ∷ ‵ (froom out-ty l28 0) ∷ ‵ (froom Fault-row′.mir l29 0) ∷ ‵ (froom out-ty l30 0) ∷ ‵ (froom out-ty l31 0) ∷ ‵ (froom Answer-row′.mir l32 0) ∷ ‵ (froom T′.mir l33 0) ∷ ‵ (froom (tyRef erased mut rec-ty) l34 0) ∷ ‵ (froom (tyInt w64) l35 0) ∷ ‵ (froom tyPtr l36 0) ∷ ‵ (froom tyPtr l37 0) ∷ ‵ (froom Row′.mir l38 0) ∷ ‵ (froom (tyInt w64) l39 0) ∷ ‵ (froom tyPtr l40 0) ∷ ‵ (froom tyPtr l41 0) ∷ ‵ (froom Row′.mir l42 0) ∷ ‵ (froom (tyRef erased mut rec-ty) l43 0) ∷ ‵ (froom T′.mir l44 0) ∷ ‵ (froom (tyRef erased mut rec-ty) l45 0) ∷ ‵ (froom T′.mir l46 0) ∷ ‵ (froom (tyRef erased mut rec-ty) l47 0) ∷ ‵ (froom T′.mir l48 0) ∷ ‵ (froom (tyInt w64) l49 0) ∷ ‵ (froom tyPtr l50 0) ∷ ‵ (froom tyPtr l51 0) ∷ ‵ (froom Row′.mir l52 0) ∷ ‵ (froom (tyRef erased mut (tyInt w8)) l53 0) ∷ ‵ (froom (sliceTy (tyRef erased mut (tyInt w8))) l54 0) ∷ ‵ (froom (tyRef erased mut rec-ty) l55 0) ∷ ‵ (froom T′.mir l56 0) ∷ ‵ (froom (tyInt w64) l57 0) ∷ ‵ (froom tyPtr l58 0) ∷ ‵ (froom tyPtr l59 0) ∷ ‵ (froom Row′.mir l60 0) ∷ ‵ (froom (tyRef erased mut rec-ty) l61 0) ∷ ‵ (froom T′.mir l62 0) ∷ ‵ (froom (tyRef erased mut rec-ty) l63 0) ∷ ‵ (froom T′.mir l64 0) ∷ ‵ (froom (tyRef erased mut rec-ty) l65 0) ∷ Dies) (runs C Λ En code-ruling (anyQ (Next call)))
-        on-ruling good s z =
+        -- Timeout
+        on-timeout : {y2 : Val} → timeout ≡ stepFor call (bytesIn f) room → room ≡ roomFor h call room → Sq W (‵ Rec ∷ ‵ (flft κ q) ∷ ‵ Room′ ∷ ‵ (flft κ-room q-room) ∷ ‵ (froom Answer-row′.mir l0 0) ∷ ‵ (fat fullShare (tyRef (named 0) mut rec-ty) l1 0 (vptr b o)) ∷ ‵ (fat fullShare Call-row′.mir l2 0 y2) ∷ ‵ (fat fullShare Frame-row′.mir l3 0 (LL.val Frame-row.the-type Frame-row′.the-laws f)) ∷ ‵ (fat fullShare (sliceTy (tyRef (named 1) mut (tyInt w8))) l4 0 s-room) ∷ ‵ (froom out-ty l5 0) ∷ ‵ (froom (tyInt w8) l6 0) ∷ ‵ (froom Control-row′.mir l7 0) ∷ ‵ (froom (tyInt w64) l8 0) ∷ ‵ (froom Row′.mir l9 0) ∷ ‵ (froom (tyInt w8) l10 0) ∷ ‵ (froom (tyInt w8) l11 0) ∷ ‵ (froom Sync-row′.mir l12 0) ∷ ‵ (froom out-ty l13 0) ∷ ‵ (froom out-ty l14 0) ∷ ‵ (froom (tyInt w8) l15 0) ∷ ‵ (froom Ruling-row′.mir l16 0) ∷ ‵ (froom (tyInt w64) l17 0) ∷ ‵ (froom Row′.mir l18 0) ∷ ‵ (froom out-ty l19 0) ∷ ‵ (froom tyBool l20 0) ∷ ‵ (froom Ruling-row′.mir l21 0) ∷ ‵ (froom (tyInt w64) l22 0) ∷ ‵ (froom Row′.mir l23 0) ∷ ‵ (froom out-ty l24 0) ∷ ‵ (froom Fault-row′.mir l25 0) ∷ ‵ (froom out-ty l26 0) ∷ ‵ (froom out-ty l27 0) ∷ ‵ (froom Answer-row′.mir l28 0) ∷ ‵ (froom T′.mir l29 0) ∷ ‵ (froom (tyRef erased mut rec-ty) l30 0) ∷ ‵ (froom (tyInt w64) l31 0) ∷ ‵ (froom tyPtr l32 0) ∷ ‵ (froom tyPtr l33 0) ∷ ‵ (froom Row′.mir l34 0) ∷ ‵ (froom (tyRef erased mut rec-ty) l35 0) ∷ ‵ (froom T′.mir l36 0) ∷ ‵ (froom (tyRef erased mut rec-ty) l37 0) ∷ ‵ (froom T′.mir l38 0) ∷ ‵ (froom (tyRef erased mut rec-ty) l39 0) ∷ ‵ (froom T′.mir l40 0) ∷ ‵ (froom (tyInt w64) l41 0) ∷ ‵ (froom tyPtr l42 0) ∷ ‵ (froom tyPtr l43 0) ∷ ‵ (froom Row′.mir l44 0) ∷ ‵ (froom (tyRef erased mut (tyInt w8)) l45 0) ∷ ‵ (froom (sliceTy (tyRef erased mut (tyInt w8))) l46 0) ∷ ‵ (froom (tyRef erased mut rec-ty) l47 0) ∷ ‵ (froom T′.mir l48 0) ∷ ‵ (froom (tyInt w64) l49 0) ∷ ‵ (froom tyPtr l50 0) ∷ ‵ (froom tyPtr l51 0) ∷ ‵ (froom Row′.mir l52 0) ∷ ‵ (froom (tyRef erased mut rec-ty) l53 0) ∷ ‵ (froom T′.mir l54 0) ∷ ‵ (froom (tyRef erased mut rec-ty) l55 0) ∷ ‵ (froom T′.mir l56 0) ∷ ‵ (froom (tyRef erased mut rec-ty) l57 0) ∷ Dies) (runs C Λ En code-timeout (anyQ (Next call)))
+        on-timeout s z =
             fsplit3 ! $ drop ! $
             opens ! tt T.the-row {h = h} b o (λ vs. spelt ! T.the-row (Is T.the-row) (shows 𝓤 H A T.the-row) (LL.vals T.the-type T′.the-laws) (LL.tells T.the-type T′.the-laws) fullShare h vs b o $
             move ! (1 ∷ []) $ peeks ! T.the-row (Is T.the-row) (shows 𝓤 H A T.the-row) h (mach h ∷ []) (λ was.
@@ -877,83 +882,17 @@ module _ {M : Type 1} (𝓤 : URA M) (H : Heap 𝓤) (A : Atoms 𝓤) (W : Given
             move ! (1 ∷ 0 ∷ 2 ∷ 3 ∷ 4 ∷ []) $ closes ! tt T.the-row h (mach h ∷ []) b o $
             move ! (3 ∷ []) $ fsplit ! $ move ! (1 ∷ []) $ fsplit ! $
             use1 W (‵ (fres γ-room (codedHoleys u8 .code (heres u8 room)))) (W .names .obs-res γ-room (codedHoleys u8 .code (heres u8 room))) $ use1 W (‵ (finally u8 γ-room room)) (res-finally 𝓤 H A W (named 1) κ-room u8 γ-room room) $
-            use0 W (raw ((Rulings 𝓤 H A at-mem run) .pre (to-ruling good))) (asked-ruling good was) $
-            calls-at ! fm (Rulings 𝓤 H A at-mem run) known-rulings (to-ruling good) (and-then ! (load ! (from ! (stop !)) (look ! 64 refl)) (and-then ! (load ! (from ! (stop !)) (look ! 32 refl)) (and-then ! (load ! (from ! (stop !)) (look ! 11 refl)) (no-more !)))) (λ v.
-            use1 W (later (some (λ (r : Ruling). (‵ ftrue ⊛ ‵ (Ruling-row.the-row .own r (v ∷ []))) ⊛ raw (ensured 𝓤 H A rulings.ended (rulings.clauses 𝓤 H A at-mem run) tt (args-ruling good) tt r)))) (id⊢ 𝓤 _) $ await ! tt $ pick ! (λ r.
-            split ! $ move ! (1 ∷ []) $ use1 W (some (λ (ws : Lasts rulings.ended tt (args-ruling good)). ‵ (lasts rulings.ended tt (args-ruling good) ws) ⊛ raw (fact 𝓤 (ruled h (bytesIn f) r ≡ doneOf (stepOf h (frameStep good (bytesIn f))))))) (id⊢ 𝓤 _) $ pick ! (λ ws.
-            split ! $ move ! (1 ∷ []) $ heard ! (ruled h (bytesIn f) r ≡ doneOf (stepOf h (frameStep good (bytesIn f)))) (λ e. drop ! $ split ! $ drop ! $
-            peeks ! Ruling-row.the-row (Is Ruling-row.the-row) (shows 𝓤 H A Ruling-row.the-row) r (v ∷ []) (λ is. drop ! $
-            land ! (from ! (stop !)) (init ! 32 refl (LL.lawful Ruling-row.the-type Ruling-row′.the-laws 𝓤 H A W .typed r _ is .0)) $ rewrite ! 32 (λ (u : Val). ‵ (fat fullShare Ruling-row′.mir l25 0 u)) (ap only (LL.tells Ruling-row.the-type Ruling-row′.the-laws r _ is)) refl $
-            keep ! (3 ∷ 4 ∷ 5 ∷ 6 ∷ 0 ∷ 7 ∷ 8 ∷ 9 ∷ 10 ∷ 11 ∷ 12 ∷ 13 ∷ 14 ∷ 15 ∷ 16 ∷ 17 ∷ 18 ∷ 19 ∷ 20 ∷ 21 ∷ 22 ∷ 23 ∷ 24 ∷ 25 ∷ 26 ∷ 27 ∷ 28 ∷ 29 ∷ 30 ∷ 31 ∷ 32 ∷ 33 ∷ 34 ∷ 35 ∷ 36 ∷ 37 ∷ 38 ∷ 39 ∷ 40 ∷ 41 ∷ 42 ∷ 43 ∷ 44 ∷ 45 ∷ 46 ∷ 47 ∷ 48 ∷ 49 ∷ 50 ∷ 51 ∷ 52 ∷ 53 ∷ 54 ∷ 55 ∷ 56 ∷ 57 ∷ 58 ∷ 59 ∷ 60 ∷ 61 ∷ 62 ∷ 63 ∷ 64 ∷ 65 ∷ 66 ∷ 67 ∷ 68 ∷ 69 ∷ 70 ∷ 71 ∷ 72 ∷ 73 ∷ 74 ∷ 75 ∷ 76 ∷ 77 ∷ 78 ∷ 79 ∷ 80 ∷ 81 ∷ 82 ∷ 83 ∷ 84 ∷ 85 ∷ 86 ∷ 87 ∷ 88 ∷ 89 ∷ 90 ∷ 91 ∷ 92 ∷ 93 ∷ 94 ∷ 95 ∷ 96 ∷ 97 ∷ 98 ∷ 99 ∷ 100 ∷ 101 ∷ 102 ∷ 103 ∷ 104 ∷ 105 ∷ 106 ∷ 107 ∷ 108 ∷ 109 ∷ 110 ∷ 111 ∷ 112 ∷ 113 ∷ 114 ∷ 115 ∷ 116 ∷ 117 ∷ 118 ∷ 119 ∷ 120 ∷ 121 ∷ 122 ∷ 123 ∷ 124 ∷ 125 ∷ 126 ∷ 127 ∷ 128 ∷ 129 ∷ 130 ∷ 131 ∷ 132 ∷ 133 ∷ 134 ∷ 135 ∷ 136 ∷ 137 ∷ 138 ∷ []) $ finding-ruling r (ruling-is r _ is) (e ∙ ap (λ (s : Step). doneOf (stepOf h s)) s) z)))))))
-
-        -- what `Fault` changes is carried out
-        carried-fault : {y2 y29 y62 : Val} (x : Change) → Is S.the-row x (LL.val S.the-type S′.the-laws x ∷ []) → changed h x ≡ doneOf (stepOf h (stepFor call (bytesIn f) room)) → (zs : List ℕ) → zs ≡ roomFor h call room → length zs ≡ length room → Sq W (‵ (fobs γ (T.the-row .coded .code h)) ∷ ‵ (fbor κ (Body (mem T.the-row) b o γ)) ∷ ‵ (flft κ q) ∷ ‵ (flft κ-room q-room) ∷ ‵ (finally u8 γ-room zs) ∷ ‵ (froom Answer-row′.mir l0 0) ∷ ‵ (fat fullShare (tyRef (named 0) mut rec-ty) l1 0 (vptr b o)) ∷ ‵ (fat fullShare Call-row′.mir l2 0 y2) ∷ ‵ (fat fullShare Frame-row′.mir l3 0 (LL.val Frame-row.the-type Frame-row′.the-laws f)) ∷ ‵ (fat fullShare (sliceTy (tyRef (named 1) mut (tyInt w8))) l4 0 s-room) ∷ ‵ (froom out-ty l5 0) ∷ ‵ (froom (tyInt w8) l6 0) ∷ ‵ (froom Control-row′.mir l7 0) ∷ ‵ (froom (tyInt w64) l8 0) ∷ ‵ (froom Row′.mir l9 0) ∷ ‵ (froom (tyInt w8) l10 0) ∷ ‵ (froom (tyInt w8) l11 0) ∷ ‵ (froom Control-row′.mir l12 0) ∷ ‵ (froom (tyInt w64) l13 0) ∷ ‵ (froom Row′.mir l14 0) ∷ ‵ (froom out-ty l15 0) ∷ ‵ (froom Sync-row′.mir l16 0) ∷ ‵ (froom out-ty l17 0) ∷ ‵ (froom out-ty l18 0) ∷ ‵ (froom (tyInt w8) l19 0) ∷ ‵ (froom Ruling-row′.mir l20 0) ∷ ‵ (froom (tyInt w64) l21 0) ∷ ‵ (froom Row′.mir l22 0) ∷ ‵ (froom out-ty l23 0) ∷ ‵ (froom tyBool l24 0) ∷ ‵ (froom Ruling-row′.mir l25 0) ∷ ‵ (froom (tyInt w64) l26 0) ∷ ‵ (froom Row′.mir l27 0) ∷ ‵ (froom out-ty l28 0) ∷ ‵ (fat fullShare Fault-row′.mir l29 0 y29) ∷ ‵ (fat fullShare out-ty l30 0 (LL.val S.the-type S′.the-laws x)) ∷ ‵ (froom out-ty l31 0) ∷ ‵ (froom Answer-row′.mir l32 0) ∷ ‵ (froom T′.mir l33 0) ∷ ‵ (froom (tyRef erased mut rec-ty) l34 0) ∷ ‵ (froom (tyInt w64) l35 0) ∷ ‵ (froom tyPtr l36 0) ∷ ‵ (froom tyPtr l37 0) ∷ ‵ (froom Row′.mir l38 0) ∷ ‵ (froom (tyInt w64) l39 0) ∷ ‵ (froom tyPtr l40 0) ∷ ‵ (froom tyPtr l41 0) ∷ ‵ (froom Row′.mir l42 0) ∷ ‵ (froom (tyRef erased mut rec-ty) l43 0) ∷ ‵ (froom T′.mir l44 0) ∷ ‵ (froom (tyRef erased mut rec-ty) l45 0) ∷ ‵ (froom T′.mir l46 0) ∷ ‵ (froom (tyRef erased mut rec-ty) l47 0) ∷ ‵ (froom T′.mir l48 0) ∷ ‵ (froom (tyInt w64) l49 0) ∷ ‵ (froom tyPtr l50 0) ∷ ‵ (froom tyPtr l51 0) ∷ ‵ (froom Row′.mir l52 0) ∷ ‵ (froom (tyRef erased mut (tyInt w8)) l53 0) ∷ ‵ (froom (sliceTy (tyRef erased mut (tyInt w8))) l54 0) ∷ ‵ (froom (tyRef erased mut rec-ty) l55 0) ∷ ‵ (froom T′.mir l56 0) ∷ ‵ (froom (tyInt w64) l57 0) ∷ ‵ (froom tyPtr l58 0) ∷ ‵ (froom tyPtr l59 0) ∷ ‵ (froom Row′.mir l60 0) ∷ ‵ (froom (tyRef erased mut rec-ty) l61 0) ∷ ‵ (fat fullShare T′.mir l62 0 y62) ∷ ‵ (froom (tyRef erased mut rec-ty) l63 0) ∷ ‵ (froom T′.mir l64 0) ∷ ‵ (froom (tyRef erased mut rec-ty) l65 0) ∷ Dies) (runs C Λ En (carrying 63 30) (anyQ (Next call)))
-        carried-fault x x-is e zs z l =
-            assigns ! (addr ! (from ! (hop ! (look ! 6 refl) (stop !)))) (from ! (stop !)) (init ! 68 refl (tt, tt)) $
-            group ! 3 $ use1 W (raw ((Carries 𝓤 H A at-mem run) .pre (to-carry x))) (asked-carry x x-is) $
-            calls-at-last ! fm (Carries 𝓤 H A at-mem run) known-carries (to-carry x) (and-then ! (load ! (from ! (stop !)) (look ! 66 refl)) (and-then ! (load ! (from ! (stop !)) (look ! 33 refl)) (no-more !))) (λ v.
-            use1 W (later (some (λ (m : Answer). ((‵ (flft κ q) ⊛ ‵ ftrue) ⊛ ‵ (Answer-row.the-row .own m (v ∷ []))) ⊛ raw (ensured 𝓤 H A carries.ended (carries.clauses 𝓤 H A at-mem run) (κ, tt) (args-carry x) tt m)))) (id⊢ 𝓤 _) $ await ! tt $ pick ! (λ m.
-            split ! $ move ! (1 ∷ []) $ use1 W (some (λ (ws : Lasts carries.ended (κ, tt) (args-carry x)). ‵ (lasts carries.ended (κ, tt) (args-carry x) ws) ⊛ raw (fact 𝓤 ((ws .0 ≡ changed h x .next) × (m ≡ x .answer))))) (id⊢ 𝓤 _) $ pick ! (λ ws.
-            split ! $ move ! (1 ∷ []) $ heard ! ((ws .0 ≡ changed h x .next) × (m ≡ x .answer)) (λ d. fsplit ! $
-            move ! (2 ∷ []) $ split ! $ move ! (1 ∷ []) $ peeks ! Answer-row.the-row (Is Answer-row.the-row) (shows 𝓤 H A Answer-row.the-row) m (v ∷ []) (λ is. drop ! $ split ! $
-            land-last ! (from ! (stop !)) (init ! 38 refl (EL.lawful Answer-row.the-type Answer-row′.the-laws 𝓤 H A W tt .typed m _ is .0)) $ rewrite ! 38 (λ (u : Val). ‵ (fat fullShare Answer-row′.mir l32 0 u)) (ap only (EL.tells Answer-row.the-type Answer-row′.the-laws m _ is)) refl $
-            exec ! C Λ En pieces.t-2 (atRet En (Post call)) $ forget ! 35 refl $ forget ! 36 refl $ forget ! 68 refl $ forget ! 69 refl $
-            keep ! (2 ∷ 0 ∷ 4 ∷ 5 ∷ 6 ∷ 7 ∷ 8 ∷ 9 ∷ 10 ∷ 11 ∷ 12 ∷ 13 ∷ 14 ∷ 15 ∷ 16 ∷ 17 ∷ 18 ∷ 19 ∷ 20 ∷ 21 ∷ 22 ∷ 23 ∷ 24 ∷ 25 ∷ 26 ∷ 27 ∷ 28 ∷ 29 ∷ 30 ∷ 31 ∷ 32 ∷ 33 ∷ 34 ∷ 35 ∷ 36 ∷ 37 ∷ 38 ∷ 39 ∷ 40 ∷ 41 ∷ 42 ∷ 43 ∷ 44 ∷ 45 ∷ 46 ∷ 47 ∷ 48 ∷ 49 ∷ 50 ∷ 51 ∷ 52 ∷ 53 ∷ 54 ∷ 55 ∷ 56 ∷ 57 ∷ 58 ∷ 59 ∷ 60 ∷ 61 ∷ 62 ∷ 63 ∷ 64 ∷ 65 ∷ 66 ∷ 67 ∷ 68 ∷ 69 ∷ 70 ∷ 71 ∷ 72 ∷ 73 ∷ 74 ∷ 75 ∷ 76 ∷ 77 ∷ 78 ∷ 79 ∷ 80 ∷ 81 ∷ 82 ∷ 83 ∷ 84 ∷ 85 ∷ 86 ∷ 87 ∷ 88 ∷ 89 ∷ 90 ∷ 91 ∷ 92 ∷ 93 ∷ 94 ∷ 95 ∷ 96 ∷ 97 ∷ 98 ∷ 99 ∷ 100 ∷ 101 ∷ 102 ∷ 103 ∷ 104 ∷ 105 ∷ 106 ∷ 107 ∷ 108 ∷ 109 ∷ 110 ∷ 111 ∷ 112 ∷ 113 ∷ 114 ∷ 115 ∷ 116 ∷ 117 ∷ 118 ∷ 119 ∷ 120 ∷ 121 ∷ 122 ∷ 123 ∷ 124 ∷ 125 ∷ 126 ∷ 127 ∷ 128 ∷ 129 ∷ 130 ∷ 131 ∷ 132 ∷ 133 ∷ 134 ∷ 135 ∷ 136 ∷ 137 ∷ []) $ answered (ws .0) m zs (d .0 ∙ ap (λ (u : Done). u .next) e, d .1 ∙ ap (λ (u : Done). u .answer) e, z) (answer-is m _ is) l)))))
-
-        -- Fault
-        on-fault : {y2 : Val} (k : FaultKind) → Is Fault-row.the-row k (EL.val Fault-row.the-type Fault-row′.the-laws k ∷ []) → fault k ≡ stepFor call (bytesIn f) room → room ≡ roomFor h call room → Sq W (‵ Rec ∷ ‵ (flft κ q) ∷ ‵ Room′ ∷ ‵ (flft κ-room q-room) ∷ ‵ (froom Answer-row′.mir l0 0) ∷ ‵ (fat fullShare (tyRef (named 0) mut rec-ty) l1 0 (vptr b o)) ∷ ‵ (fat fullShare Call-row′.mir l2 0 y2) ∷ ‵ (fat fullShare Frame-row′.mir l3 0 (LL.val Frame-row.the-type Frame-row′.the-laws f)) ∷ ‵ (fat fullShare (sliceTy (tyRef (named 1) mut (tyInt w8))) l4 0 s-room) ∷ ‵ (froom out-ty l5 0) ∷ ‵ (froom (tyInt w8) l6 0) ∷ ‵ (froom Control-row′.mir l7 0) ∷ ‵ (froom (tyInt w64) l8 0) ∷ ‵ (froom Row′.mir l9 0) ∷ ‵ (froom (tyInt w8) l10 0) ∷ ‵ (froom (tyInt w8) l11 0) ∷ ‵ (froom Control-row′.mir l12 0) ∷ ‵ (froom (tyInt w64) l13 0) ∷ ‵ (froom Row′.mir l14 0) ∷ ‵ (froom out-ty l15 0) ∷ ‵ (froom Sync-row′.mir l16 0) ∷ ‵ (froom out-ty l17 0) ∷ ‵ (froom out-ty l18 0) ∷ ‵ (froom (tyInt w8) l19 0) ∷ ‵ (froom Ruling-row′.mir l20 0) ∷ ‵ (froom (tyInt w64) l21 0) ∷ ‵ (froom Row′.mir l22 0) ∷ ‵ (froom out-ty l23 0) ∷ ‵ (froom tyBool l24 0) ∷ ‵ (froom Ruling-row′.mir l25 0) ∷ ‵ (froom (tyInt w64) l26 0) ∷ ‵ (froom Row′.mir l27 0) ∷ ‵ (froom out-ty l28 0) ∷ ‵ (fat fullShare Fault-row′.mir l29 0 (EL.val Fault-row.the-type Fault-row′.the-laws k)) ∷ ‵ (froom out-ty l30 0) ∷ ‵ (froom out-ty l31 0) ∷ ‵ (froom Answer-row′.mir l32 0) ∷ ‵ (froom T′.mir l33 0) ∷ ‵ (froom (tyRef erased mut rec-ty) l34 0) ∷ ‵ (froom (tyInt w64) l35 0) ∷ ‵ (froom tyPtr l36 0) ∷ ‵ (froom tyPtr l37 0) ∷ ‵ (froom Row′.mir l38 0) ∷ ‵ (froom (tyInt w64) l39 0) ∷ ‵ (froom tyPtr l40 0) ∷ ‵ (froom tyPtr l41 0) ∷ ‵ (froom Row′.mir l42 0) ∷ ‵ (froom (tyRef erased mut rec-ty) l43 0) ∷ ‵ (froom T′.mir l44 0) ∷ ‵ (froom (tyRef erased mut rec-ty) l45 0) ∷ ‵ (froom T′.mir l46 0) ∷ ‵ (froom (tyRef erased mut rec-ty) l47 0) ∷ ‵ (froom T′.mir l48 0) ∷ ‵ (froom (tyInt w64) l49 0) ∷ ‵ (froom tyPtr l50 0) ∷ ‵ (froom tyPtr l51 0) ∷ ‵ (froom Row′.mir l52 0) ∷ ‵ (froom (tyRef erased mut (tyInt w8)) l53 0) ∷ ‵ (froom (sliceTy (tyRef erased mut (tyInt w8))) l54 0) ∷ ‵ (froom (tyRef erased mut rec-ty) l55 0) ∷ ‵ (froom T′.mir l56 0) ∷ ‵ (froom (tyInt w64) l57 0) ∷ ‵ (froom tyPtr l58 0) ∷ ‵ (froom tyPtr l59 0) ∷ ‵ (froom Row′.mir l60 0) ∷ ‵ (froom (tyRef erased mut rec-ty) l61 0) ∷ ‵ (froom T′.mir l62 0) ∷ ‵ (froom (tyRef erased mut rec-ty) l63 0) ∷ ‵ (froom T′.mir l64 0) ∷ ‵ (froom (tyRef erased mut rec-ty) l65 0) ∷ Dies) (runs C Λ En code-fault (anyQ (Next call)))
-        on-fault k k-is s z =
-            fsplit3 ! $ drop ! $
-            opens ! tt T.the-row {h = h} b o (λ vs. spelt ! T.the-row (Is T.the-row) (shows 𝓤 H A T.the-row) (LL.vals T.the-type T′.the-laws) (LL.tells T.the-type T′.the-laws) fullShare h vs b o $
-            move ! (1 ∷ []) $ peeks ! T.the-row (Is T.the-row) (shows 𝓤 H A T.the-row) h (mach h ∷ []) (λ was.
-            assigns ! (of-opd ! (load ! (from ! (hop ! (look ! 8 refl) (stop !))) (look-raw ! 1 refl))) (from ! (stop !)) (init ! 69 refl (LL.lawful T.the-type T′.the-laws 𝓤 H A W .typed h _ was .0)) $
-            move ! (1 ∷ 0 ∷ 2 ∷ 3 ∷ 4 ∷ []) $ closes ! tt T.the-row h (mach h ∷ []) b o $
-            move ! (3 ∷ []) $ fsplit ! $ move ! (1 ∷ []) $ fsplit ! $
-            use1 W (‵ (fres γ-room (codedHoleys u8 .code (heres u8 room)))) (W .names .obs-res γ-room (codedHoleys u8 .code (heres u8 room))) $ use1 W (‵ (finally u8 γ-room room)) (res-finally 𝓤 H A W (named 1) κ-room u8 γ-room room) $
-            use0 W (raw ((Faults 𝓤 H A at-mem run) .pre (to-fault k))) (asked-fault k k-is was) $
-            calls-at ! fm (Faults 𝓤 H A at-mem run) known-faults (to-fault k) (and-then ! (load ! (from ! (stop !)) (look ! 70 refl)) (and-then ! (load ! (from ! (stop !)) (look ! 37 refl)) (no-more !))) (λ v.
-            use1 W (later (some (λ (x : Change). (‵ ftrue ⊛ ‵ (S.the-row .own x (v ∷ []))) ⊛ raw (ensured 𝓤 H A faults.ended (faults.clauses 𝓤 H A at-mem run) tt (args-fault k) tt x)))) (id⊢ 𝓤 _) $ await ! tt $ pick ! (λ x.
-            split ! $ move ! (1 ∷ []) $ use1 W (some (λ (ws : Lasts faults.ended tt (args-fault k)). ‵ (lasts faults.ended tt (args-fault k) ws) ⊛ raw (fact 𝓤 (changed h x ≡ doneOf (stepOf h (fault k)))))) (id⊢ 𝓤 _) $ pick ! (λ ws.
-            split ! $ move ! (1 ∷ []) $ heard ! (changed h x ≡ doneOf (stepOf h (fault k))) (λ e. drop ! $ split ! $ drop ! $
-            peeks ! S.the-row (Is S.the-row) (shows 𝓤 H A S.the-row) x (v ∷ []) (λ is. drop ! $
-            land ! (from ! (stop !)) (init ! 37 refl (LL.lawful S.the-type S′.the-laws 𝓤 H A W .typed x _ is .0)) $ rewrite ! 37 (λ (u : Val). ‵ (fat fullShare out-ty l30 0 u)) (ap only (LL.tells S.the-type S′.the-laws x _ is)) refl $
-            keep ! (3 ∷ 4 ∷ 5 ∷ 6 ∷ 0 ∷ 7 ∷ 8 ∷ 9 ∷ 10 ∷ 11 ∷ 12 ∷ 13 ∷ 14 ∷ 15 ∷ 16 ∷ 17 ∷ 18 ∷ 19 ∷ 20 ∷ 21 ∷ 22 ∷ 23 ∷ 24 ∷ 25 ∷ 26 ∷ 27 ∷ 28 ∷ 29 ∷ 30 ∷ 31 ∷ 32 ∷ 33 ∷ 34 ∷ 35 ∷ 36 ∷ 37 ∷ 38 ∷ 39 ∷ 40 ∷ 41 ∷ 42 ∷ 43 ∷ 44 ∷ 45 ∷ 46 ∷ 47 ∷ 48 ∷ 49 ∷ 50 ∷ 51 ∷ 52 ∷ 53 ∷ 54 ∷ 55 ∷ 56 ∷ 57 ∷ 58 ∷ 59 ∷ 60 ∷ 61 ∷ 62 ∷ 63 ∷ 64 ∷ 65 ∷ 66 ∷ 67 ∷ 68 ∷ 69 ∷ 70 ∷ 71 ∷ 72 ∷ 73 ∷ 74 ∷ 75 ∷ 76 ∷ 77 ∷ 78 ∷ 79 ∷ 80 ∷ 81 ∷ 82 ∷ 83 ∷ 84 ∷ 85 ∷ 86 ∷ 87 ∷ 88 ∷ 89 ∷ 90 ∷ 91 ∷ 92 ∷ 93 ∷ 94 ∷ 95 ∷ 96 ∷ 97 ∷ 98 ∷ 99 ∷ 100 ∷ 101 ∷ 102 ∷ 103 ∷ 104 ∷ 105 ∷ 106 ∷ 107 ∷ 108 ∷ 109 ∷ 110 ∷ 111 ∷ 112 ∷ 113 ∷ 114 ∷ 115 ∷ 116 ∷ 117 ∷ 118 ∷ 119 ∷ 120 ∷ 121 ∷ 122 ∷ 123 ∷ 124 ∷ 125 ∷ 126 ∷ 127 ∷ 128 ∷ 129 ∷ 130 ∷ 131 ∷ 132 ∷ 133 ∷ 134 ∷ 135 ∷ 136 ∷ 137 ∷ 138 ∷ []) $ carried-fault x (change-is x _ is) (e ∙ ap (λ (s : Step). doneOf (stepOf h s)) s) room z refl)))))))
-
-        -- what `Timeout` changes is carried out
-        carried-timeout : {y2 y64 : Val} (x : Change) → Is S.the-row x (LL.val S.the-type S′.the-laws x ∷ []) → changed h x ≡ doneOf (stepOf h (stepFor call (bytesIn f) room)) → (zs : List ℕ) → zs ≡ roomFor h call room → length zs ≡ length room → Sq W (‵ (fobs γ (T.the-row .coded .code h)) ∷ ‵ (fbor κ (Body (mem T.the-row) b o γ)) ∷ ‵ (flft κ q) ∷ ‵ (flft κ-room q-room) ∷ ‵ (finally u8 γ-room zs) ∷ ‵ (froom Answer-row′.mir l0 0) ∷ ‵ (fat fullShare (tyRef (named 0) mut rec-ty) l1 0 (vptr b o)) ∷ ‵ (fat fullShare Call-row′.mir l2 0 y2) ∷ ‵ (fat fullShare Frame-row′.mir l3 0 (LL.val Frame-row.the-type Frame-row′.the-laws f)) ∷ ‵ (fat fullShare (sliceTy (tyRef (named 1) mut (tyInt w8))) l4 0 s-room) ∷ ‵ (froom out-ty l5 0) ∷ ‵ (froom (tyInt w8) l6 0) ∷ ‵ (froom Control-row′.mir l7 0) ∷ ‵ (froom (tyInt w64) l8 0) ∷ ‵ (froom Row′.mir l9 0) ∷ ‵ (froom (tyInt w8) l10 0) ∷ ‵ (froom (tyInt w8) l11 0) ∷ ‵ (froom Control-row′.mir l12 0) ∷ ‵ (froom (tyInt w64) l13 0) ∷ ‵ (froom Row′.mir l14 0) ∷ ‵ (froom out-ty l15 0) ∷ ‵ (froom Sync-row′.mir l16 0) ∷ ‵ (froom out-ty l17 0) ∷ ‵ (froom out-ty l18 0) ∷ ‵ (froom (tyInt w8) l19 0) ∷ ‵ (froom Ruling-row′.mir l20 0) ∷ ‵ (froom (tyInt w64) l21 0) ∷ ‵ (froom Row′.mir l22 0) ∷ ‵ (froom out-ty l23 0) ∷ ‵ (froom tyBool l24 0) ∷ ‵ (froom Ruling-row′.mir l25 0) ∷ ‵ (froom (tyInt w64) l26 0) ∷ ‵ (froom Row′.mir l27 0) ∷ ‵ (froom out-ty l28 0) ∷ ‵ (froom Fault-row′.mir l29 0) ∷ ‵ (froom out-ty l30 0) ∷ ‵ (fat fullShare out-ty l31 0 (LL.val S.the-type S′.the-laws x)) ∷ ‵ (froom Answer-row′.mir l32 0) ∷ ‵ (froom T′.mir l33 0) ∷ ‵ (froom (tyRef erased mut rec-ty) l34 0) ∷ ‵ (froom (tyInt w64) l35 0) ∷ ‵ (froom tyPtr l36 0) ∷ ‵ (froom tyPtr l37 0) ∷ ‵ (froom Row′.mir l38 0) ∷ ‵ (froom (tyInt w64) l39 0) ∷ ‵ (froom tyPtr l40 0) ∷ ‵ (froom tyPtr l41 0) ∷ ‵ (froom Row′.mir l42 0) ∷ ‵ (froom (tyRef erased mut rec-ty) l43 0) ∷ ‵ (froom T′.mir l44 0) ∷ ‵ (froom (tyRef erased mut rec-ty) l45 0) ∷ ‵ (froom T′.mir l46 0) ∷ ‵ (froom (tyRef erased mut rec-ty) l47 0) ∷ ‵ (froom T′.mir l48 0) ∷ ‵ (froom (tyInt w64) l49 0) ∷ ‵ (froom tyPtr l50 0) ∷ ‵ (froom tyPtr l51 0) ∷ ‵ (froom Row′.mir l52 0) ∷ ‵ (froom (tyRef erased mut (tyInt w8)) l53 0) ∷ ‵ (froom (sliceTy (tyRef erased mut (tyInt w8))) l54 0) ∷ ‵ (froom (tyRef erased mut rec-ty) l55 0) ∷ ‵ (froom T′.mir l56 0) ∷ ‵ (froom (tyInt w64) l57 0) ∷ ‵ (froom tyPtr l58 0) ∷ ‵ (froom tyPtr l59 0) ∷ ‵ (froom Row′.mir l60 0) ∷ ‵ (froom (tyRef erased mut rec-ty) l61 0) ∷ ‵ (froom T′.mir l62 0) ∷ ‵ (froom (tyRef erased mut rec-ty) l63 0) ∷ ‵ (fat fullShare T′.mir l64 0 y64) ∷ ‵ (froom (tyRef erased mut rec-ty) l65 0) ∷ Dies) (runs C Λ En (carrying 65 31) (anyQ (Next call)))
-        carried-timeout x x-is e zs z l =
-            assigns ! (addr ! (from ! (hop ! (look ! 6 refl) (stop !)))) (from ! (stop !)) (init ! 70 refl (tt, tt)) $
-            group ! 3 $ use1 W (raw ((Carries 𝓤 H A at-mem run) .pre (to-carry x))) (asked-carry x x-is) $
-            calls-at-last ! fm (Carries 𝓤 H A at-mem run) known-carries (to-carry x) (and-then ! (load ! (from ! (stop !)) (look ! 68 refl)) (and-then ! (load ! (from ! (stop !)) (look ! 34 refl)) (no-more !))) (λ v.
-            use1 W (later (some (λ (m : Answer). ((‵ (flft κ q) ⊛ ‵ ftrue) ⊛ ‵ (Answer-row.the-row .own m (v ∷ []))) ⊛ raw (ensured 𝓤 H A carries.ended (carries.clauses 𝓤 H A at-mem run) (κ, tt) (args-carry x) tt m)))) (id⊢ 𝓤 _) $ await ! tt $ pick ! (λ m.
-            split ! $ move ! (1 ∷ []) $ use1 W (some (λ (ws : Lasts carries.ended (κ, tt) (args-carry x)). ‵ (lasts carries.ended (κ, tt) (args-carry x) ws) ⊛ raw (fact 𝓤 ((ws .0 ≡ changed h x .next) × (m ≡ x .answer))))) (id⊢ 𝓤 _) $ pick ! (λ ws.
-            split ! $ move ! (1 ∷ []) $ heard ! ((ws .0 ≡ changed h x .next) × (m ≡ x .answer)) (λ d. fsplit ! $
-            move ! (2 ∷ []) $ split ! $ move ! (1 ∷ []) $ peeks ! Answer-row.the-row (Is Answer-row.the-row) (shows 𝓤 H A Answer-row.the-row) m (v ∷ []) (λ is. drop ! $ split ! $
-            land-last ! (from ! (stop !)) (init ! 38 refl (EL.lawful Answer-row.the-type Answer-row′.the-laws 𝓤 H A W tt .typed m _ is .0)) $ rewrite ! 38 (λ (u : Val). ‵ (fat fullShare Answer-row′.mir l32 0 u)) (ap only (EL.tells Answer-row.the-type Answer-row′.the-laws m _ is)) refl $
-            exec ! C Λ En pieces.t-2 (atRet En (Post call)) $ forget ! 37 refl $ forget ! 70 refl $ forget ! 71 refl $
-            keep ! (2 ∷ 0 ∷ 4 ∷ 5 ∷ 6 ∷ 7 ∷ 8 ∷ 9 ∷ 10 ∷ 11 ∷ 12 ∷ 13 ∷ 14 ∷ 15 ∷ 16 ∷ 17 ∷ 18 ∷ 19 ∷ 20 ∷ 21 ∷ 22 ∷ 23 ∷ 24 ∷ 25 ∷ 26 ∷ 27 ∷ 28 ∷ 29 ∷ 30 ∷ 31 ∷ 32 ∷ 33 ∷ 34 ∷ 35 ∷ 36 ∷ 37 ∷ 38 ∷ 39 ∷ 40 ∷ 41 ∷ 42 ∷ 43 ∷ 44 ∷ 45 ∷ 46 ∷ 47 ∷ 48 ∷ 49 ∷ 50 ∷ 51 ∷ 52 ∷ 53 ∷ 54 ∷ 55 ∷ 56 ∷ 57 ∷ 58 ∷ 59 ∷ 60 ∷ 61 ∷ 62 ∷ 63 ∷ 64 ∷ 65 ∷ 66 ∷ 67 ∷ 68 ∷ 69 ∷ 70 ∷ 71 ∷ 72 ∷ 73 ∷ 74 ∷ 75 ∷ 76 ∷ 77 ∷ 78 ∷ 79 ∷ 80 ∷ 81 ∷ 82 ∷ 83 ∷ 84 ∷ 85 ∷ 86 ∷ 87 ∷ 88 ∷ 89 ∷ 90 ∷ 91 ∷ 92 ∷ 93 ∷ 94 ∷ 95 ∷ 96 ∷ 97 ∷ 98 ∷ 99 ∷ 100 ∷ 101 ∷ 102 ∷ 103 ∷ 104 ∷ 105 ∷ 106 ∷ 107 ∷ 108 ∷ 109 ∷ 110 ∷ 111 ∷ 112 ∷ 113 ∷ 114 ∷ 115 ∷ 116 ∷ 117 ∷ 118 ∷ 119 ∷ 120 ∷ 121 ∷ 122 ∷ 123 ∷ 124 ∷ 125 ∷ 126 ∷ 127 ∷ 128 ∷ 129 ∷ 130 ∷ 131 ∷ 132 ∷ 133 ∷ 134 ∷ 135 ∷ 136 ∷ 137 ∷ []) $ answered (ws .0) m zs (d .0 ∙ ap (λ (u : Done). u .next) e, d .1 ∙ ap (λ (u : Done). u .answer) e, z) (answer-is m _ is) l)))))
-
-        -- Timeout
-        on-timeout : {y2 : Val} → timeout ≡ stepFor call (bytesIn f) room → room ≡ roomFor h call room → Sq W (‵ Rec ∷ ‵ (flft κ q) ∷ ‵ Room′ ∷ ‵ (flft κ-room q-room) ∷ ‵ (froom Answer-row′.mir l0 0) ∷ ‵ (fat fullShare (tyRef (named 0) mut rec-ty) l1 0 (vptr b o)) ∷ ‵ (fat fullShare Call-row′.mir l2 0 y2) ∷ ‵ (fat fullShare Frame-row′.mir l3 0 (LL.val Frame-row.the-type Frame-row′.the-laws f)) ∷ ‵ (fat fullShare (sliceTy (tyRef (named 1) mut (tyInt w8))) l4 0 s-room) ∷ ‵ (froom out-ty l5 0) ∷ ‵ (froom (tyInt w8) l6 0) ∷ ‵ (froom Control-row′.mir l7 0) ∷ ‵ (froom (tyInt w64) l8 0) ∷ ‵ (froom Row′.mir l9 0) ∷ ‵ (froom (tyInt w8) l10 0) ∷ ‵ (froom (tyInt w8) l11 0) ∷ ‵ (froom Control-row′.mir l12 0) ∷ ‵ (froom (tyInt w64) l13 0) ∷ ‵ (froom Row′.mir l14 0) ∷ ‵ (froom out-ty l15 0) ∷ ‵ (froom Sync-row′.mir l16 0) ∷ ‵ (froom out-ty l17 0) ∷ ‵ (froom out-ty l18 0) ∷ ‵ (froom (tyInt w8) l19 0) ∷ ‵ (froom Ruling-row′.mir l20 0) ∷ ‵ (froom (tyInt w64) l21 0) ∷ ‵ (froom Row′.mir l22 0) ∷ ‵ (froom out-ty l23 0) ∷ ‵ (froom tyBool l24 0) ∷ ‵ (froom Ruling-row′.mir l25 0) ∷ ‵ (froom (tyInt w64) l26 0) ∷ ‵ (froom Row′.mir l27 0) ∷ ‵ (froom out-ty l28 0) ∷ ‵ (froom Fault-row′.mir l29 0) ∷ ‵ (froom out-ty l30 0) ∷ ‵ (froom out-ty l31 0) ∷ ‵ (froom Answer-row′.mir l32 0) ∷ ‵ (froom T′.mir l33 0) ∷ ‵ (froom (tyRef erased mut rec-ty) l34 0) ∷ ‵ (froom (tyInt w64) l35 0) ∷ ‵ (froom tyPtr l36 0) ∷ ‵ (froom tyPtr l37 0) ∷ ‵ (froom Row′.mir l38 0) ∷ ‵ (froom (tyInt w64) l39 0) ∷ ‵ (froom tyPtr l40 0) ∷ ‵ (froom tyPtr l41 0) ∷ ‵ (froom Row′.mir l42 0) ∷ ‵ (froom (tyRef erased mut rec-ty) l43 0) ∷ ‵ (froom T′.mir l44 0) ∷ ‵ (froom (tyRef erased mut rec-ty) l45 0) ∷ ‵ (froom T′.mir l46 0) ∷ ‵ (froom (tyRef erased mut rec-ty) l47 0) ∷ ‵ (froom T′.mir l48 0) ∷ ‵ (froom (tyInt w64) l49 0) ∷ ‵ (froom tyPtr l50 0) ∷ ‵ (froom tyPtr l51 0) ∷ ‵ (froom Row′.mir l52 0) ∷ ‵ (froom (tyRef erased mut (tyInt w8)) l53 0) ∷ ‵ (froom (sliceTy (tyRef erased mut (tyInt w8))) l54 0) ∷ ‵ (froom (tyRef erased mut rec-ty) l55 0) ∷ ‵ (froom T′.mir l56 0) ∷ ‵ (froom (tyInt w64) l57 0) ∷ ‵ (froom tyPtr l58 0) ∷ ‵ (froom tyPtr l59 0) ∷ ‵ (froom Row′.mir l60 0) ∷ ‵ (froom (tyRef erased mut rec-ty) l61 0) ∷ ‵ (froom T′.mir l62 0) ∷ ‵ (froom (tyRef erased mut rec-ty) l63 0) ∷ ‵ (froom T′.mir l64 0) ∷ ‵ (froom (tyRef erased mut rec-ty) l65 0) ∷ Dies) (runs C Λ En code-timeout (anyQ (Next call)))
-        on-timeout s z =
-            fsplit3 ! $ drop ! $
-            opens ! tt T.the-row {h = h} b o (λ vs. spelt ! T.the-row (Is T.the-row) (shows 𝓤 H A T.the-row) (LL.vals T.the-type T′.the-laws) (LL.tells T.the-type T′.the-laws) fullShare h vs b o $
-            move ! (1 ∷ []) $ peeks ! T.the-row (Is T.the-row) (shows 𝓤 H A T.the-row) h (mach h ∷ []) (λ was.
-            assigns ! (of-opd ! (load ! (from ! (hop ! (look ! 8 refl) (stop !))) (look-raw ! 1 refl))) (from ! (stop !)) (init ! 71 refl (LL.lawful T.the-type T′.the-laws 𝓤 H A W .typed h _ was .0)) $
-            move ! (1 ∷ 0 ∷ 2 ∷ 3 ∷ 4 ∷ []) $ closes ! tt T.the-row h (mach h ∷ []) b o $
-            move ! (3 ∷ []) $ fsplit ! $ move ! (1 ∷ []) $ fsplit ! $
-            use1 W (‵ (fres γ-room (codedHoleys u8 .code (heres u8 room)))) (W .names .obs-res γ-room (codedHoleys u8 .code (heres u8 room))) $ use1 W (‵ (finally u8 γ-room room)) (res-finally 𝓤 H A W (named 1) κ-room u8 γ-room room) $
             use0 W (raw ((Timeouts 𝓤 H A at-mem run) .pre to-timeout)) (asked-timeout was) $
-            calls-at ! fm (Timeouts 𝓤 H A at-mem run) known-timeouts to-timeout (and-then ! (load ! (from ! (stop !)) (look ! 72 refl)) (no-more !)) (λ v.
+            calls-at ! fm (Timeouts 𝓤 H A at-mem run) known-timeouts to-timeout (and-then ! (load ! (from ! (stop !)) (look ! 64 refl)) (no-more !)) (λ v.
             use1 W (later (some (λ (x : Change). (‵ ftrue ⊛ ‵ (S.the-row .own x (v ∷ []))) ⊛ raw (ensured 𝓤 H A timeouts.ended (timeouts.clauses 𝓤 H A at-mem run) tt args-timeout tt x)))) (id⊢ 𝓤 _) $ await ! tt $ pick ! (λ x.
             split ! $ move ! (1 ∷ []) $ use1 W (some (λ (ws : Lasts timeouts.ended tt args-timeout). ‵ (lasts timeouts.ended tt args-timeout ws) ⊛ raw (fact 𝓤 (changed h x ≡ doneOf (stepOf h (timeout)))))) (id⊢ 𝓤 _) $ pick ! (λ ws.
             split ! $ move ! (1 ∷ []) $ heard ! (changed h x ≡ doneOf (stepOf h (timeout))) (λ e. drop ! $ split ! $ drop ! $
             peeks ! S.the-row (Is S.the-row) (shows 𝓤 H A S.the-row) x (v ∷ []) (λ is. drop ! $
-            land ! (from ! (stop !)) (init ! 38 refl (LL.lawful S.the-type S′.the-laws 𝓤 H A W .typed x _ is .0)) $ rewrite ! 38 (λ (u : Val). ‵ (fat fullShare out-ty l31 0 u)) (ap only (LL.tells S.the-type S′.the-laws x _ is)) refl $
-            keep ! (3 ∷ 4 ∷ 5 ∷ 6 ∷ 0 ∷ 7 ∷ 8 ∷ 9 ∷ 10 ∷ 11 ∷ 12 ∷ 13 ∷ 14 ∷ 15 ∷ 16 ∷ 17 ∷ 18 ∷ 19 ∷ 20 ∷ 21 ∷ 22 ∷ 23 ∷ 24 ∷ 25 ∷ 26 ∷ 27 ∷ 28 ∷ 29 ∷ 30 ∷ 31 ∷ 32 ∷ 33 ∷ 34 ∷ 35 ∷ 36 ∷ 37 ∷ 38 ∷ 39 ∷ 40 ∷ 41 ∷ 42 ∷ 43 ∷ 44 ∷ 45 ∷ 46 ∷ 47 ∷ 48 ∷ 49 ∷ 50 ∷ 51 ∷ 52 ∷ 53 ∷ 54 ∷ 55 ∷ 56 ∷ 57 ∷ 58 ∷ 59 ∷ 60 ∷ 61 ∷ 62 ∷ 63 ∷ 64 ∷ 65 ∷ 66 ∷ 67 ∷ 68 ∷ 69 ∷ 70 ∷ 71 ∷ 72 ∷ 73 ∷ 74 ∷ 75 ∷ 76 ∷ 77 ∷ 78 ∷ 79 ∷ 80 ∷ 81 ∷ 82 ∷ 83 ∷ 84 ∷ 85 ∷ 86 ∷ 87 ∷ 88 ∷ 89 ∷ 90 ∷ 91 ∷ 92 ∷ 93 ∷ 94 ∷ 95 ∷ 96 ∷ 97 ∷ 98 ∷ 99 ∷ 100 ∷ 101 ∷ 102 ∷ 103 ∷ 104 ∷ 105 ∷ 106 ∷ 107 ∷ 108 ∷ 109 ∷ 110 ∷ 111 ∷ 112 ∷ 113 ∷ 114 ∷ 115 ∷ 116 ∷ 117 ∷ 118 ∷ 119 ∷ 120 ∷ 121 ∷ 122 ∷ 123 ∷ 124 ∷ 125 ∷ 126 ∷ 127 ∷ 128 ∷ 129 ∷ 130 ∷ 131 ∷ 132 ∷ 133 ∷ 134 ∷ 135 ∷ 136 ∷ 137 ∷ 138 ∷ []) $ carried-timeout x (change-is x _ is) (e ∙ ap (λ (s : Step). doneOf (stepOf h s)) s) room z refl)))))))
+            land ! (from ! (stop !)) (init ! 34 refl (LL.lawful S.the-type S′.the-laws 𝓤 H A W .typed x _ is .0)) $ rewrite ! 34 (λ (u : Val). ‵ (fat fullShare out-ty l27 0 u)) (ap only (LL.tells S.the-type S′.the-laws x _ is)) refl $
+            keep ! (3 ∷ 4 ∷ 5 ∷ 6 ∷ 0 ∷ 7 ∷ 8 ∷ 9 ∷ 10 ∷ 11 ∷ 12 ∷ 13 ∷ 14 ∷ 15 ∷ 16 ∷ 17 ∷ 18 ∷ 19 ∷ 20 ∷ 21 ∷ 22 ∷ 23 ∷ 24 ∷ 25 ∷ 26 ∷ 27 ∷ 28 ∷ 29 ∷ 30 ∷ 31 ∷ 32 ∷ 33 ∷ 34 ∷ 35 ∷ 36 ∷ 37 ∷ 38 ∷ 39 ∷ 40 ∷ 41 ∷ 42 ∷ 43 ∷ 44 ∷ 45 ∷ 46 ∷ 47 ∷ 48 ∷ 49 ∷ 50 ∷ 51 ∷ 52 ∷ 53 ∷ 54 ∷ 55 ∷ 56 ∷ 57 ∷ 58 ∷ 59 ∷ 60 ∷ 61 ∷ 62 ∷ 63 ∷ 64 ∷ 65 ∷ 66 ∷ 67 ∷ 68 ∷ 69 ∷ 70 ∷ 71 ∷ 72 ∷ 73 ∷ 74 ∷ 75 ∷ 76 ∷ 77 ∷ 78 ∷ 79 ∷ 80 ∷ 81 ∷ 82 ∷ 83 ∷ 84 ∷ 85 ∷ 86 ∷ 87 ∷ 88 ∷ 89 ∷ 90 ∷ 91 ∷ 92 ∷ 93 ∷ 94 ∷ 95 ∷ 96 ∷ 97 ∷ 98 ∷ 99 ∷ 100 ∷ 101 ∷ 102 ∷ 103 ∷ 104 ∷ 105 ∷ 106 ∷ 107 ∷ 108 ∷ 109 ∷ 110 ∷ 111 ∷ 112 ∷ 113 ∷ 114 ∷ 115 ∷ 116 ∷ 117 ∷ 118 ∷ 119 ∷ 120 ∷ 121 ∷ 122 ∷ []) $ carried-timeout x (change-is x _ is) (e ∙ ap (λ (s : Step). doneOf (stepOf h s)) s) room z refl)))))))
 
       -- the switch: what is left computes to the arm that runs
-      matched : (call : Call) → Is Call-row.the-row call (EL.val Call-row.the-type Call-row′.the-laws call ∷ []) → Sq W (‵ Rec ∷ ‵ (flft κ q) ∷ ‵ Room′ ∷ ‵ (flft κ-room q-room) ∷ ‵ (froom Answer-row′.mir l0 0) ∷ ‵ (fat fullShare (tyRef (named 0) mut rec-ty) l1 0 (vptr b o)) ∷ ‵ (fat fullShare Call-row′.mir l2 0 (EL.val Call-row.the-type Call-row′.the-laws call)) ∷ ‵ (fat fullShare Frame-row′.mir l3 0 (LL.val Frame-row.the-type Frame-row′.the-laws f)) ∷ ‵ (fat fullShare (sliceTy (tyRef (named 1) mut (tyInt w8))) l4 0 s-room) ∷ ‵ (froom out-ty l5 0) ∷ ‵ (froom (tyInt w8) l6 0) ∷ ‵ (froom Control-row′.mir l7 0) ∷ ‵ (froom (tyInt w64) l8 0) ∷ ‵ (froom Row′.mir l9 0) ∷ ‵ (froom (tyInt w8) l10 0) ∷ ‵ (froom (tyInt w8) l11 0) ∷ ‵ (froom Control-row′.mir l12 0) ∷ ‵ (froom (tyInt w64) l13 0) ∷ ‵ (froom Row′.mir l14 0) ∷ ‵ (froom out-ty l15 0) ∷ ‵ (froom Sync-row′.mir l16 0) ∷ ‵ (froom out-ty l17 0) ∷ ‵ (froom out-ty l18 0) ∷ ‵ (froom (tyInt w8) l19 0) ∷ ‵ (froom Ruling-row′.mir l20 0) ∷ ‵ (froom (tyInt w64) l21 0) ∷ ‵ (froom Row′.mir l22 0) ∷ ‵ (froom out-ty l23 0) ∷ ‵ (froom tyBool l24 0) ∷ ‵ (froom Ruling-row′.mir l25 0) ∷ ‵ (froom (tyInt w64) l26 0) ∷ ‵ (froom Row′.mir l27 0) ∷ ‵ (froom out-ty l28 0) ∷ ‵ (froom Fault-row′.mir l29 0) ∷ ‵ (froom out-ty l30 0) ∷ ‵ (froom out-ty l31 0) ∷ ‵ (froom Answer-row′.mir l32 0) ∷ ‵ (froom T′.mir l33 0) ∷ ‵ (froom (tyRef erased mut rec-ty) l34 0) ∷ ‵ (froom (tyInt w64) l35 0) ∷ ‵ (froom tyPtr l36 0) ∷ ‵ (froom tyPtr l37 0) ∷ ‵ (froom Row′.mir l38 0) ∷ ‵ (froom (tyInt w64) l39 0) ∷ ‵ (froom tyPtr l40 0) ∷ ‵ (froom tyPtr l41 0) ∷ ‵ (froom Row′.mir l42 0) ∷ ‵ (froom (tyRef erased mut rec-ty) l43 0) ∷ ‵ (froom T′.mir l44 0) ∷ ‵ (froom (tyRef erased mut rec-ty) l45 0) ∷ ‵ (froom T′.mir l46 0) ∷ ‵ (froom (tyRef erased mut rec-ty) l47 0) ∷ ‵ (froom T′.mir l48 0) ∷ ‵ (froom (tyInt w64) l49 0) ∷ ‵ (froom tyPtr l50 0) ∷ ‵ (froom tyPtr l51 0) ∷ ‵ (froom Row′.mir l52 0) ∷ ‵ (froom (tyRef erased mut (tyInt w8)) l53 0) ∷ ‵ (froom (sliceTy (tyRef erased mut (tyInt w8))) l54 0) ∷ ‵ (froom (tyRef erased mut rec-ty) l55 0) ∷ ‵ (froom T′.mir l56 0) ∷ ‵ (froom (tyInt w64) l57 0) ∷ ‵ (froom tyPtr l58 0) ∷ ‵ (froom tyPtr l59 0) ∷ ‵ (froom Row′.mir l60 0) ∷ ‵ (froom (tyRef erased mut rec-ty) l61 0) ∷ ‵ (froom T′.mir l62 0) ∷ ‵ (froom (tyRef erased mut rec-ty) l63 0) ∷ ‵ (froom T′.mir l64 0) ∷ ‵ (froom (tyRef erased mut rec-ty) l65 0) ∷ Dies) (runs C Λ En the-match (anyQ (Next call)))
+      matched : (call : Call) → Is Call-row.the-row call (EL.val Call-row.the-type Call-row′.the-laws call ∷ []) → Sq W (‵ Rec ∷ ‵ (flft κ q) ∷ ‵ Room′ ∷ ‵ (flft κ-room q-room) ∷ ‵ (froom Answer-row′.mir l0 0) ∷ ‵ (fat fullShare (tyRef (named 0) mut rec-ty) l1 0 (vptr b o)) ∷ ‵ (fat fullShare Call-row′.mir l2 0 (EL.val Call-row.the-type Call-row′.the-laws call)) ∷ ‵ (fat fullShare Frame-row′.mir l3 0 (LL.val Frame-row.the-type Frame-row′.the-laws f)) ∷ ‵ (fat fullShare (sliceTy (tyRef (named 1) mut (tyInt w8))) l4 0 s-room) ∷ ‵ (froom out-ty l5 0) ∷ ‵ (froom (tyInt w8) l6 0) ∷ ‵ (froom Control-row′.mir l7 0) ∷ ‵ (froom (tyInt w64) l8 0) ∷ ‵ (froom Row′.mir l9 0) ∷ ‵ (froom (tyInt w8) l10 0) ∷ ‵ (froom (tyInt w8) l11 0) ∷ ‵ (froom Sync-row′.mir l12 0) ∷ ‵ (froom out-ty l13 0) ∷ ‵ (froom out-ty l14 0) ∷ ‵ (froom (tyInt w8) l15 0) ∷ ‵ (froom Ruling-row′.mir l16 0) ∷ ‵ (froom (tyInt w64) l17 0) ∷ ‵ (froom Row′.mir l18 0) ∷ ‵ (froom out-ty l19 0) ∷ ‵ (froom tyBool l20 0) ∷ ‵ (froom Ruling-row′.mir l21 0) ∷ ‵ (froom (tyInt w64) l22 0) ∷ ‵ (froom Row′.mir l23 0) ∷ ‵ (froom out-ty l24 0) ∷ ‵ (froom Fault-row′.mir l25 0) ∷ ‵ (froom out-ty l26 0) ∷ ‵ (froom out-ty l27 0) ∷ ‵ (froom Answer-row′.mir l28 0) ∷ ‵ (froom T′.mir l29 0) ∷ ‵ (froom (tyRef erased mut rec-ty) l30 0) ∷ ‵ (froom (tyInt w64) l31 0) ∷ ‵ (froom tyPtr l32 0) ∷ ‵ (froom tyPtr l33 0) ∷ ‵ (froom Row′.mir l34 0) ∷ ‵ (froom (tyRef erased mut rec-ty) l35 0) ∷ ‵ (froom T′.mir l36 0) ∷ ‵ (froom (tyRef erased mut rec-ty) l37 0) ∷ ‵ (froom T′.mir l38 0) ∷ ‵ (froom (tyRef erased mut rec-ty) l39 0) ∷ ‵ (froom T′.mir l40 0) ∷ ‵ (froom (tyInt w64) l41 0) ∷ ‵ (froom tyPtr l42 0) ∷ ‵ (froom tyPtr l43 0) ∷ ‵ (froom Row′.mir l44 0) ∷ ‵ (froom (tyRef erased mut (tyInt w8)) l45 0) ∷ ‵ (froom (sliceTy (tyRef erased mut (tyInt w8))) l46 0) ∷ ‵ (froom (tyRef erased mut rec-ty) l47 0) ∷ ‵ (froom T′.mir l48 0) ∷ ‵ (froom (tyInt w64) l49 0) ∷ ‵ (froom tyPtr l50 0) ∷ ‵ (froom tyPtr l51 0) ∷ ‵ (froom Row′.mir l52 0) ∷ ‵ (froom (tyRef erased mut rec-ty) l53 0) ∷ ‵ (froom T′.mir l54 0) ∷ ‵ (froom (tyRef erased mut rec-ty) l55 0) ∷ ‵ (froom T′.mir l56 0) ∷ ‵ (froom (tyRef erased mut rec-ty) l57 0) ∷ Dies) (runs C Λ En the-match (anyQ (Next call)))
       matched Reset i =
           switches-on ! (load ! (from ! (vrt ! refl (fld ! refl (stop !)))) (look-tag ! 6 (whole !))) $ exec ! C Λ En arm-reset (anyQ (Next Reset)) $
           on-reset Reset i refl refl
@@ -968,37 +907,37 @@ module _ {M : Type 1} (𝓤 : URA M) (H : Heap 𝓤) (A : Atoms 𝓤) (W : Given
           on-write (Write n u) i n u (EL.owed Call-row.the-type Call-row′.the-laws (Write n u) _ i .0 .1) (EL.owed Call-row.the-type Call-row′.the-laws (Write n u) _ i .1 .0 .1) refl refl
       matched (Sync k) i =
           switches-on ! (load ! (from ! (vrt ! refl (fld ! refl (stop !)))) (look-tag ! 6 (whole !))) $ exec ! C Λ En arm-sync (anyQ (Next (Sync k))) $
-          assigns ! (of-opd ! (load ! (from ! (vrt ! refl (fld ! refl (stop !)))) (look-in ! 6 (in-variant ! 3 0 refl refl (whole !))))) (from ! (stop !)) (init ! 20 refl (EL.lawful Sync-row.the-type Sync-row′.the-laws 𝓤 H A W tt .typed k _ ((EL.owed Call-row.the-type Call-row′.the-laws (Sync k) _ i .0)) .0)) $
+          assigns ! (of-opd ! (load ! (from ! (vrt ! refl (fld ! refl (stop !)))) (look-in ! 6 (in-variant ! 3 0 refl refl (whole !))))) (from ! (stop !)) (init ! 16 refl (EL.lawful Sync-row.the-type Sync-row′.the-laws 𝓤 H A W tt .typed k _ ((EL.owed Call-row.the-type Call-row′.the-laws (Sync k) _ i .0)) .0)) $
           on-sync (Sync k) i k (EL.owed Call-row.the-type Call-row′.the-laws (Sync k) _ i .0) refl refl
       matched SyncDue i =
           switches-on ! (load ! (from ! (vrt ! refl (fld ! refl (stop !)))) (look-tag ! 6 (whole !))) $ exec ! C Λ En arm-due (anyQ (Next SyncDue)) $
           on-due SyncDue i refl refl
       matched (Slot n) i =
           switches-on ! (load ! (from ! (vrt ! refl (fld ! refl (stop !)))) (look-tag ! 6 (whole !))) $ exec ! C Λ En arm-slot (anyQ (Next (Slot n))) $
-          assigns ! (of-opd ! (load ! (from ! (vrt ! refl (fld ! refl (stop !)))) (look-in ! 6 (in-variant ! 5 0 refl refl (whole !))))) (from ! (stop !)) (init ! 23 refl (tt, record { fits = EL.owed Call-row.the-type Call-row′.the-laws (Slot n) _ i .0 .1 })) $
+          assigns ! (of-opd ! (load ! (from ! (vrt ! refl (fld ! refl (stop !)))) (look-in ! 6 (in-variant ! 5 0 refl refl (whole !))))) (from ! (stop !)) (init ! 19 refl (tt, record { fits = EL.owed Call-row.the-type Call-row′.the-laws (Slot n) _ i .0 .1 })) $
           on-slot (Slot n) i n (EL.owed Call-row.the-type Call-row′.the-laws (Slot n) _ i .0 .1) refl refl
       matched (Frame good) i =
           switches-on ! (load ! (from ! (vrt ! refl (fld ! refl (stop !)))) (look-tag ! 6 (whole !))) $ exec ! C Λ En arm-ruling (anyQ (Next (Frame good))) $
-          assigns ! (of-opd ! (load ! (from ! (vrt ! refl (fld ! refl (stop !)))) (look-in ! 6 (in-variant ! 6 0 refl refl (whole !))))) (from ! (stop !)) (init ! 28 refl (tt, tt)) $
+          assigns ! (of-opd ! (load ! (from ! (vrt ! refl (fld ! refl (stop !)))) (look-in ! 6 (in-variant ! 6 0 refl refl (whole !))))) (from ! (stop !)) (init ! 24 refl (tt, tt)) $
           on-ruling (Frame good) i good refl refl
       matched (Fault k) i =
           switches-on ! (load ! (from ! (vrt ! refl (fld ! refl (stop !)))) (look-tag ! 6 (whole !))) $ exec ! C Λ En arm-fault (anyQ (Next (Fault k))) $
-          assigns ! (of-opd ! (load ! (from ! (vrt ! refl (fld ! refl (stop !)))) (look-in ! 6 (in-variant ! 7 0 refl refl (whole !))))) (from ! (stop !)) (init ! 33 refl (EL.lawful Fault-row.the-type Fault-row′.the-laws 𝓤 H A W tt .typed k _ ((EL.owed Call-row.the-type Call-row′.the-laws (Fault k) _ i .0)) .0)) $
+          assigns ! (of-opd ! (load ! (from ! (vrt ! refl (fld ! refl (stop !)))) (look-in ! 6 (in-variant ! 7 0 refl refl (whole !))))) (from ! (stop !)) (init ! 29 refl (EL.lawful Fault-row.the-type Fault-row′.the-laws 𝓤 H A W tt .typed k _ ((EL.owed Call-row.the-type Call-row′.the-laws (Fault k) _ i .0)) .0)) $
           on-fault (Fault k) i k (EL.owed Call-row.the-type Call-row′.the-laws (Fault k) _ i .0) refl refl
       matched Timeout i =
           switches-on ! (load ! (from ! (vrt ! refl (fld ! refl (stop !)))) (look-tag ! 6 (whole !))) $ exec ! C Λ En arm-timeout (anyQ (Next Timeout)) $
           on-timeout Timeout i refl refl
 
-      started : (call : Call) → Is Call-row.the-row call (EL.val Call-row.the-type Call-row′.the-laws call ∷ []) → Sq W (‵ Rec ∷ ‵ (flft κ q) ∷ ‵ Room′ ∷ ‵ (flft κ-room q-room) ∷ ‵ (froom Answer-row′.mir l0 0) ∷ ‵ (fat fullShare (tyRef (named 0) mut rec-ty) l1 0 (vptr b o)) ∷ ‵ (fat fullShare Call-row′.mir l2 0 (EL.val Call-row.the-type Call-row′.the-laws call)) ∷ ‵ (fat fullShare Frame-row′.mir l3 0 (LL.val Frame-row.the-type Frame-row′.the-laws f)) ∷ ‵ (fat fullShare (sliceTy (tyRef (named 1) mut (tyInt w8))) l4 0 s-room) ∷ ‵ (froom out-ty l5 0) ∷ ‵ (froom (tyInt w8) l6 0) ∷ ‵ (froom Control-row′.mir l7 0) ∷ ‵ (froom (tyInt w64) l8 0) ∷ ‵ (froom Row′.mir l9 0) ∷ ‵ (froom (tyInt w8) l10 0) ∷ ‵ (froom (tyInt w8) l11 0) ∷ ‵ (froom Control-row′.mir l12 0) ∷ ‵ (froom (tyInt w64) l13 0) ∷ ‵ (froom Row′.mir l14 0) ∷ ‵ (froom out-ty l15 0) ∷ ‵ (froom Sync-row′.mir l16 0) ∷ ‵ (froom out-ty l17 0) ∷ ‵ (froom out-ty l18 0) ∷ ‵ (froom (tyInt w8) l19 0) ∷ ‵ (froom Ruling-row′.mir l20 0) ∷ ‵ (froom (tyInt w64) l21 0) ∷ ‵ (froom Row′.mir l22 0) ∷ ‵ (froom out-ty l23 0) ∷ ‵ (froom tyBool l24 0) ∷ ‵ (froom Ruling-row′.mir l25 0) ∷ ‵ (froom (tyInt w64) l26 0) ∷ ‵ (froom Row′.mir l27 0) ∷ ‵ (froom out-ty l28 0) ∷ ‵ (froom Fault-row′.mir l29 0) ∷ ‵ (froom out-ty l30 0) ∷ ‵ (froom out-ty l31 0) ∷ ‵ (froom Answer-row′.mir l32 0) ∷ ‵ (froom T′.mir l33 0) ∷ ‵ (froom (tyRef erased mut rec-ty) l34 0) ∷ ‵ (froom (tyInt w64) l35 0) ∷ ‵ (froom tyPtr l36 0) ∷ ‵ (froom tyPtr l37 0) ∷ ‵ (froom Row′.mir l38 0) ∷ ‵ (froom (tyInt w64) l39 0) ∷ ‵ (froom tyPtr l40 0) ∷ ‵ (froom tyPtr l41 0) ∷ ‵ (froom Row′.mir l42 0) ∷ ‵ (froom (tyRef erased mut rec-ty) l43 0) ∷ ‵ (froom T′.mir l44 0) ∷ ‵ (froom (tyRef erased mut rec-ty) l45 0) ∷ ‵ (froom T′.mir l46 0) ∷ ‵ (froom (tyRef erased mut rec-ty) l47 0) ∷ ‵ (froom T′.mir l48 0) ∷ ‵ (froom (tyInt w64) l49 0) ∷ ‵ (froom tyPtr l50 0) ∷ ‵ (froom tyPtr l51 0) ∷ ‵ (froom Row′.mir l52 0) ∷ ‵ (froom (tyRef erased mut (tyInt w8)) l53 0) ∷ ‵ (froom (sliceTy (tyRef erased mut (tyInt w8))) l54 0) ∷ ‵ (froom (tyRef erased mut rec-ty) l55 0) ∷ ‵ (froom T′.mir l56 0) ∷ ‵ (froom (tyInt w64) l57 0) ∷ ‵ (froom tyPtr l58 0) ∷ ‵ (froom tyPtr l59 0) ∷ ‵ (froom Row′.mir l60 0) ∷ ‵ (froom (tyRef erased mut rec-ty) l61 0) ∷ ‵ (froom T′.mir l62 0) ∷ ‵ (froom (tyRef erased mut rec-ty) l63 0) ∷ ‵ (froom T′.mir l64 0) ∷ ‵ (froom (tyRef erased mut rec-ty) l65 0) ∷ Dies) (runs C Λ En pieces.t-1 (atRet En (Post call)))
+      started : (call : Call) → Is Call-row.the-row call (EL.val Call-row.the-type Call-row′.the-laws call ∷ []) → Sq W (‵ Rec ∷ ‵ (flft κ q) ∷ ‵ Room′ ∷ ‵ (flft κ-room q-room) ∷ ‵ (froom Answer-row′.mir l0 0) ∷ ‵ (fat fullShare (tyRef (named 0) mut rec-ty) l1 0 (vptr b o)) ∷ ‵ (fat fullShare Call-row′.mir l2 0 (EL.val Call-row.the-type Call-row′.the-laws call)) ∷ ‵ (fat fullShare Frame-row′.mir l3 0 (LL.val Frame-row.the-type Frame-row′.the-laws f)) ∷ ‵ (fat fullShare (sliceTy (tyRef (named 1) mut (tyInt w8))) l4 0 s-room) ∷ ‵ (froom out-ty l5 0) ∷ ‵ (froom (tyInt w8) l6 0) ∷ ‵ (froom Control-row′.mir l7 0) ∷ ‵ (froom (tyInt w64) l8 0) ∷ ‵ (froom Row′.mir l9 0) ∷ ‵ (froom (tyInt w8) l10 0) ∷ ‵ (froom (tyInt w8) l11 0) ∷ ‵ (froom Sync-row′.mir l12 0) ∷ ‵ (froom out-ty l13 0) ∷ ‵ (froom out-ty l14 0) ∷ ‵ (froom (tyInt w8) l15 0) ∷ ‵ (froom Ruling-row′.mir l16 0) ∷ ‵ (froom (tyInt w64) l17 0) ∷ ‵ (froom Row′.mir l18 0) ∷ ‵ (froom out-ty l19 0) ∷ ‵ (froom tyBool l20 0) ∷ ‵ (froom Ruling-row′.mir l21 0) ∷ ‵ (froom (tyInt w64) l22 0) ∷ ‵ (froom Row′.mir l23 0) ∷ ‵ (froom out-ty l24 0) ∷ ‵ (froom Fault-row′.mir l25 0) ∷ ‵ (froom out-ty l26 0) ∷ ‵ (froom out-ty l27 0) ∷ ‵ (froom Answer-row′.mir l28 0) ∷ ‵ (froom T′.mir l29 0) ∷ ‵ (froom (tyRef erased mut rec-ty) l30 0) ∷ ‵ (froom (tyInt w64) l31 0) ∷ ‵ (froom tyPtr l32 0) ∷ ‵ (froom tyPtr l33 0) ∷ ‵ (froom Row′.mir l34 0) ∷ ‵ (froom (tyRef erased mut rec-ty) l35 0) ∷ ‵ (froom T′.mir l36 0) ∷ ‵ (froom (tyRef erased mut rec-ty) l37 0) ∷ ‵ (froom T′.mir l38 0) ∷ ‵ (froom (tyRef erased mut rec-ty) l39 0) ∷ ‵ (froom T′.mir l40 0) ∷ ‵ (froom (tyInt w64) l41 0) ∷ ‵ (froom tyPtr l42 0) ∷ ‵ (froom tyPtr l43 0) ∷ ‵ (froom Row′.mir l44 0) ∷ ‵ (froom (tyRef erased mut (tyInt w8)) l45 0) ∷ ‵ (froom (sliceTy (tyRef erased mut (tyInt w8))) l46 0) ∷ ‵ (froom (tyRef erased mut rec-ty) l47 0) ∷ ‵ (froom T′.mir l48 0) ∷ ‵ (froom (tyInt w64) l49 0) ∷ ‵ (froom tyPtr l50 0) ∷ ‵ (froom tyPtr l51 0) ∷ ‵ (froom Row′.mir l52 0) ∷ ‵ (froom (tyRef erased mut rec-ty) l53 0) ∷ ‵ (froom T′.mir l54 0) ∷ ‵ (froom (tyRef erased mut rec-ty) l55 0) ∷ ‵ (froom T′.mir l56 0) ∷ ‵ (froom (tyRef erased mut rec-ty) l57 0) ∷ Dies) (runs C Λ En pieces.t-1 (atRet En (Post call)))
       started call call-is = first ! $ matched call call-is
 
     walk : (call : Call) → Is Call-row.the-row call (EL.val Call-row.the-type Call-row′.the-laws call ∷ []) → ent 𝓤 (onEntry 𝓤 H A this.signature (κ, (κ-room, tt)) (q, (q-room, tt)) (a call) (at call)) (WpFn 𝓤 H C Λ code.function (vptr b o ∷ EL.val Call-row.the-type Call-row′.the-laws call ∷ LL.val Frame-row.the-type Frame-row′.the-laws f ∷ s-room ∷ []) (Post call))
     walk call call-is =
         qed W ((‵ (flft κ q) ⊛ ‵ (flft κ-room q-room) ⊛ ‵ ftrue) ∷ ‵ (owns (MutRef (named 0) κ T.the-row ∷ Call-row.the-row ∷ Frame-row.the-row ∷ MutSlice (named 1) κ-room u8 ∷ []) (a call) (at call)) ∷ []) ∵ split ! $ move ! (1 ∷ []) $ split ! $ move ! (3 ∷ []) $ fsplit ! $ move ! (1 ∷ []) $ fsplit ! $ drop ! $ fsplit ! $ drop ! $ fsplit ! $ move ! (1 ∷ []) $ keep ! (2 ∷ 5 ∷ 1 ∷ 3 ∷ []) $
         enter ! C Λ code.function (vptr b o ∷ EL.val Call-row.the-type Call-row′.the-laws call ∷ LL.val Frame-row.the-type Frame-row′.the-laws f ∷ s-room ∷ []) _ $
-        alloc1 ! (λ l0. alloc1 ! (λ l1. alloc1 ! (λ l2. alloc1 ! (λ l3. alloc1 ! (λ l4. alloc1 ! (λ l5. alloc1 ! (λ l6. alloc1 ! (λ l7. alloc1 ! (λ l8. alloc1 ! (λ l9. alloc1 ! (λ l10. alloc1 ! (λ l11. alloc1 ! (λ l12. alloc1 ! (λ l13. alloc1 ! (λ l14. alloc1 ! (λ l15. alloc1 ! (λ l16. alloc1 ! (λ l17. alloc1 ! (λ l18. alloc1 ! (λ l19. alloc1 ! (λ l20. alloc1 ! (λ l21. alloc1 ! (λ l22. alloc1 ! (λ l23. alloc1 ! (λ l24. alloc1 ! (λ l25. alloc1 ! (λ l26. alloc1 ! (λ l27. alloc1 ! (λ l28. alloc1 ! (λ l29. alloc1 ! (λ l30. alloc1 ! (λ l31. alloc1 ! (λ l32. alloc1 ! (λ l33. alloc1 ! (λ l34. alloc1 ! (λ l35. alloc1 ! (λ l36. alloc1 ! (λ l37. alloc1 ! (λ l38. alloc1 ! (λ l39. alloc1 ! (λ l40. alloc1 ! (λ l41. alloc1 ! (λ l42. alloc1 ! (λ l43. alloc1 ! (λ l44. alloc1 ! (λ l45. alloc1 ! (λ l46. alloc1 ! (λ l47. alloc1 ! (λ l48. alloc1 ! (λ l49. alloc1 ! (λ l50. alloc1 ! (λ l51. alloc1 ! (λ l52. alloc1 ! (λ l53. alloc1 ! (λ l54. alloc1 ! (λ l55. alloc1 ! (λ l56. alloc1 ! (λ l57. alloc1 ! (λ l58. alloc1 ! (λ l59. alloc1 ! (λ l60. alloc1 ! (λ l61. alloc1 ! (λ l62. alloc1 ! (λ l63. alloc1 ! (λ l64. alloc1 ! (λ l65. alloc0 ! $ params1 ! $
-        pass1 ! (init ! 128 refl (tt, tt)) $ pass1 ! (init ! 126 refl (EL.lawful Call-row.the-type Call-row′.the-laws 𝓤 H A W tt .typed call _ call-is .0)) $ pass1 ! (init ! 124 refl (LL.lawful Frame-row.the-type Frame-row′.the-laws 𝓤 H A W .typed f _ f-is .0)) $ pass1 ! (init ! 122 refl (tt, (tt, (record { fits = room-room .0 }, tt)))) $ pass0 ! $
-        move ! (132 ∷ 133 ∷ 134 ∷ 135 ∷ 130 ∷ 128 ∷ 126 ∷ 124 ∷ 122 ∷ 120 ∷ 118 ∷ 116 ∷ 114 ∷ 112 ∷ 110 ∷ 108 ∷ 106 ∷ 104 ∷ 102 ∷ 100 ∷ 98 ∷ 96 ∷ 94 ∷ 92 ∷ 90 ∷ 88 ∷ 86 ∷ 84 ∷ 82 ∷ 80 ∷ 78 ∷ 76 ∷ 74 ∷ 72 ∷ 70 ∷ 68 ∷ 66 ∷ 64 ∷ 62 ∷ 60 ∷ 58 ∷ 56 ∷ 54 ∷ 52 ∷ 50 ∷ 48 ∷ 46 ∷ 44 ∷ 42 ∷ 40 ∷ 38 ∷ 36 ∷ 34 ∷ 32 ∷ 30 ∷ 28 ∷ 26 ∷ 24 ∷ 22 ∷ 20 ∷ 18 ∷ 16 ∷ 14 ∷ 12 ∷ 10 ∷ 8 ∷ 6 ∷ 4 ∷ 2 ∷ 0 ∷ 131 ∷ 129 ∷ 127 ∷ 125 ∷ 123 ∷ 121 ∷ 119 ∷ 117 ∷ 115 ∷ 113 ∷ 111 ∷ 109 ∷ 107 ∷ 105 ∷ 103 ∷ 101 ∷ 99 ∷ 97 ∷ 95 ∷ 93 ∷ 91 ∷ 89 ∷ 87 ∷ 85 ∷ 83 ∷ 81 ∷ 79 ∷ 77 ∷ 75 ∷ 73 ∷ 71 ∷ 69 ∷ 67 ∷ 65 ∷ 63 ∷ 61 ∷ 59 ∷ 57 ∷ 55 ∷ 53 ∷ 51 ∷ 49 ∷ 47 ∷ 45 ∷ 43 ∷ 41 ∷ 39 ∷ 37 ∷ 35 ∷ 33 ∷ 31 ∷ 29 ∷ 27 ∷ 25 ∷ 23 ∷ 21 ∷ 19 ∷ 17 ∷ 15 ∷ 13 ∷ 11 ∷ 9 ∷ 7 ∷ 5 ∷ 3 ∷ 1 ∷ []) $ started l0 l1 l2 l3 l4 l5 l6 l7 l8 l9 l10 l11 l12 l13 l14 l15 l16 l17 l18 l19 l20 l21 l22 l23 l24 l25 l26 l27 l28 l29 l30 l31 l32 l33 l34 l35 l36 l37 l38 l39 l40 l41 l42 l43 l44 l45 l46 l47 l48 l49 l50 l51 l52 l53 l54 l55 l56 l57 l58 l59 l60 l61 l62 l63 l64 l65 call call-is))))))))))))))))))))))))))))))))))))))))))))))))))))))))))))))))))
+        alloc1 ! (λ l0. alloc1 ! (λ l1. alloc1 ! (λ l2. alloc1 ! (λ l3. alloc1 ! (λ l4. alloc1 ! (λ l5. alloc1 ! (λ l6. alloc1 ! (λ l7. alloc1 ! (λ l8. alloc1 ! (λ l9. alloc1 ! (λ l10. alloc1 ! (λ l11. alloc1 ! (λ l12. alloc1 ! (λ l13. alloc1 ! (λ l14. alloc1 ! (λ l15. alloc1 ! (λ l16. alloc1 ! (λ l17. alloc1 ! (λ l18. alloc1 ! (λ l19. alloc1 ! (λ l20. alloc1 ! (λ l21. alloc1 ! (λ l22. alloc1 ! (λ l23. alloc1 ! (λ l24. alloc1 ! (λ l25. alloc1 ! (λ l26. alloc1 ! (λ l27. alloc1 ! (λ l28. alloc1 ! (λ l29. alloc1 ! (λ l30. alloc1 ! (λ l31. alloc1 ! (λ l32. alloc1 ! (λ l33. alloc1 ! (λ l34. alloc1 ! (λ l35. alloc1 ! (λ l36. alloc1 ! (λ l37. alloc1 ! (λ l38. alloc1 ! (λ l39. alloc1 ! (λ l40. alloc1 ! (λ l41. alloc1 ! (λ l42. alloc1 ! (λ l43. alloc1 ! (λ l44. alloc1 ! (λ l45. alloc1 ! (λ l46. alloc1 ! (λ l47. alloc1 ! (λ l48. alloc1 ! (λ l49. alloc1 ! (λ l50. alloc1 ! (λ l51. alloc1 ! (λ l52. alloc1 ! (λ l53. alloc1 ! (λ l54. alloc1 ! (λ l55. alloc1 ! (λ l56. alloc1 ! (λ l57. alloc0 ! $ params1 ! $
+        pass1 ! (init ! 112 refl (tt, tt)) $ pass1 ! (init ! 110 refl (EL.lawful Call-row.the-type Call-row′.the-laws 𝓤 H A W tt .typed call _ call-is .0)) $ pass1 ! (init ! 108 refl (LL.lawful Frame-row.the-type Frame-row′.the-laws 𝓤 H A W .typed f _ f-is .0)) $ pass1 ! (init ! 106 refl (tt, (tt, (record { fits = room-room .0 }, tt)))) $ pass0 ! $
+        move ! (116 ∷ 117 ∷ 118 ∷ 119 ∷ 114 ∷ 112 ∷ 110 ∷ 108 ∷ 106 ∷ 104 ∷ 102 ∷ 100 ∷ 98 ∷ 96 ∷ 94 ∷ 92 ∷ 90 ∷ 88 ∷ 86 ∷ 84 ∷ 82 ∷ 80 ∷ 78 ∷ 76 ∷ 74 ∷ 72 ∷ 70 ∷ 68 ∷ 66 ∷ 64 ∷ 62 ∷ 60 ∷ 58 ∷ 56 ∷ 54 ∷ 52 ∷ 50 ∷ 48 ∷ 46 ∷ 44 ∷ 42 ∷ 40 ∷ 38 ∷ 36 ∷ 34 ∷ 32 ∷ 30 ∷ 28 ∷ 26 ∷ 24 ∷ 22 ∷ 20 ∷ 18 ∷ 16 ∷ 14 ∷ 12 ∷ 10 ∷ 8 ∷ 6 ∷ 4 ∷ 2 ∷ 0 ∷ 115 ∷ 113 ∷ 111 ∷ 109 ∷ 107 ∷ 105 ∷ 103 ∷ 101 ∷ 99 ∷ 97 ∷ 95 ∷ 93 ∷ 91 ∷ 89 ∷ 87 ∷ 85 ∷ 83 ∷ 81 ∷ 79 ∷ 77 ∷ 75 ∷ 73 ∷ 71 ∷ 69 ∷ 67 ∷ 65 ∷ 63 ∷ 61 ∷ 59 ∷ 57 ∷ 55 ∷ 53 ∷ 51 ∷ 49 ∷ 47 ∷ 45 ∷ 43 ∷ 41 ∷ 39 ∷ 37 ∷ 35 ∷ 33 ∷ 31 ∷ 29 ∷ 27 ∷ 25 ∷ 23 ∷ 21 ∷ 19 ∷ 17 ∷ 15 ∷ 13 ∷ 11 ∷ 9 ∷ 7 ∷ 5 ∷ 3 ∷ 1 ∷ []) $ started l0 l1 l2 l3 l4 l5 l6 l7 l8 l9 l10 l11 l12 l13 l14 l15 l16 l17 l18 l19 l20 l21 l22 l23 l24 l25 l26 l27 l28 l29 l30 l31 l32 l33 l34 l35 l36 l37 l38 l39 l40 l41 l42 l43 l44 l45 l46 l47 l48 l49 l50 l51 l52 l53 l54 l55 l56 l57 call call-is))))))))))))))))))))))))))))))))))))))))))))))))))))))))))
 
 module _ {M : Type 1} (𝓤 : URA M) (H : Heap 𝓤) (A : Atoms 𝓤) (W : Given 𝓤 H A) (at-mem : Memory → SProp 𝓤) (run : Routine → Fun 𝓤) where
   walks : (C : Calls 𝓤 H) (Λ : Loops 𝓤 H) → FmC 𝓤 H (W .laws) C → Triple 𝓤 (C #resets) (Resets 𝓤 H A at-mem run) → Triple 𝓤 (C #reads) (Reads 𝓤 H A at-mem run) → Triple 𝓤 (C #writes) (Writes 𝓤 H A at-mem run) → Triple 𝓤 (C #syncs) (Syncs 𝓤 H A at-mem run) → Triple 𝓤 (C #dues) (Dues 𝓤 H A at-mem run) → Triple 𝓤 (C #slots) (Slots 𝓤 H A at-mem run) → Triple 𝓤 (C #rulings) (Rulings 𝓤 H A at-mem run) → Triple 𝓤 (C #faults) (Faults 𝓤 H A at-mem run) → Triple 𝓤 (C #timeouts) (Timeouts 𝓤 H A at-mem run) → Triple 𝓤 (C #rows) (Rows 𝓤 H A at-mem run) → Triple 𝓤 (C #windows) (Windows 𝓤 H A at-mem run) → Triple 𝓤 (C #frameds) (Frameds 𝓤 H A at-mem run) → Triple 𝓤 (C #filled) (Filled 𝓤 H A at-mem run) → Triple 𝓤 (C #carries) (Carries 𝓤 H A at-mem run) → Walks 𝓤 H A this.ended stayed (WpFn 𝓤 H C Λ code.function) (this.clauses 𝓤 H A at-mem run)
@@ -1022,7 +961,7 @@ step-spec 𝓤 H 𝓜 𝓖 𝓡 =
     (meets 𝓤 H (𝓖 .A) (givenOf 𝓤 H 𝓜 𝓖) (𝓜 .mem) (𝓡 .run) (tablesOf 𝓤 H 𝓜 (tables 𝓤 H 𝓜 𝓡 code.env))
     (cited 𝓤 H (Resets 𝓤 H (𝓖 .A) (𝓜 .mem) (𝓡 .run)) 𝓜 𝓡 code.env #resets resets-def.routine code.calls-controller·Controller·plan-reset (resets-thm.met 𝓤 H 𝓜 𝓖 𝓡))
     (cited 𝓤 H (Reads 𝓤 H (𝓖 .A) (𝓜 .mem) (𝓡 .run)) 𝓜 𝓡 code.env #reads reads-def.routine code.calls-controller·Controller·read-answer (reads-thm.met 𝓤 H 𝓜 𝓖 𝓡))
-    (cited 𝓤 H (Writes 𝓤 H (𝓖 .A) (𝓜 .mem) (𝓡 .run)) 𝓜 𝓡 code.env #writes writes-def.routine code.calls-controller·Controller·write-change (writes-thm.met 𝓤 H 𝓜 𝓖 𝓡))
+    (cited 𝓤 H (Writes 𝓤 H (𝓖 .A) (𝓜 .mem) (𝓡 .run)) 𝓜 𝓡 code.env #writes writes-def.routine code.calls-lent·write (writes-thm.met 𝓤 H 𝓜 𝓖 𝓡))
     (cited 𝓤 H (Syncs 𝓤 H (𝓖 .A) (𝓜 .mem) (𝓡 .run)) 𝓜 𝓡 code.env #syncs syncs-def.routine code.calls-controller·Controller·plan-sync (syncs-thm.met 𝓤 H 𝓜 𝓖 𝓡))
     (cited 𝓤 H (Dues 𝓤 H (𝓖 .A) (𝓜 .mem) (𝓡 .run)) 𝓜 𝓡 code.env #dues dues-def.routine code.calls-controller·Controller·plan-due (dues-thm.met 𝓤 H 𝓜 𝓖 𝓡))
     (cited 𝓤 H (Slots 𝓤 H (𝓖 .A) (𝓜 .mem) (𝓡 .run)) 𝓜 𝓡 code.env #slots slots-def.routine code.calls-controller·Controller·slot-ruling (slots-thm.met 𝓤 H 𝓜 𝓖 𝓡))
