@@ -21,15 +21,15 @@ FNS={
   told="The size is compared; where it is right the borrow is opened, the record that `Controller::after_reset` returns is stored, and the borrow is closed at it.",
   uses=["use Rattle.controller.specs.Carry.{resetState}",f"use {spec}.Interface.{{resetNext, resetAnswer}}",f"use {spec}.CodeLaws.{{reset-right, reset-wrong}}"]),
  "hevrukan_lines":dict(params=[("c","&"),("size","usize")],locals=["tyBool","byte",Con.mir()],decls=[Con],
-  callees=[("lines","Rattle.controller.proofs.Controller.lines","controller·Controller·lines"),("wide",f"{modp}.answers.wide","hevrukan·answers·wide")],
+  callees=[("lines","Rattle.controller.proofs.Controller.lines","controller·Controller·lines"),("wide","Rattle.numbers.proofs.answers.wide","numbers·answers·wide")],
   says="(m : ℕ)",said="m",text="m ≡ linesAnswer h size",
   told="The size is compared; where it is right the borrow is looked into for the copy that `Controller::lines` reads, and shut again.",
   uses=["use Rattle.rules.specs.Flags.{linesOf}",f"use {spec}.Interface.{{linesAnswer}}",f"use {spec}.CodeLaws.{{lines-right, lines-wrong}}"]),
  "hevrukan_step":dict(params=STEP,locals=["tyInt w32",Cal.mir(),Ans.mir(),"tyBool","tyBool",Ans.mir(),"tyRef erased mut rec-ty","tyRef erased mut rec-ty",Fra.mir(),"tyRef erased mut byte","sliceTy (tyRef erased mut byte)"],decls=[Con,Cal,Fra,Ans],
-  callees=[("judged",f"{modp}.calls.judged","hevrukan·calls·judged"),("meant",f"{modp}.calls.meant","hevrukan·calls·meant"),("none",f"{modp}.calls.no_frame","hevrukan·calls·no-frame"),("framed","Rattle.lent.proofs.frame","lent·frame"),("step","Rattle.lent.proofs.step","lent·step"),("number",f"{modp}.answers.number","hevrukan·answers·number")],
+  callees=[("judged","Rattle.numbers.proofs.calls.judged","numbers·calls·judged"),("meant","Rattle.numbers.proofs.calls.meant","numbers·calls·meant"),("none","Rattle.numbers.proofs.calls.no_frame","numbers·calls·no-frame"),("framed","Rattle.lent.proofs.frame","lent·frame"),("step","Rattle.lent.proofs.step","lent·step"),("number","Rattle.numbers.proofs.answers.number","numbers·answers·number")],
   says="(c : Controller) (m : ℕ) (zs : List ℕ)",said="c m zs",text="stepEffect h size kind one two bytes room ≡ record { next = c; answer = m; room = zs }",
   told="What stands for no call is answered as it is judged, and the record and the room are given up as they were passed. The switch goes by cases on the call: a frame goes to `lent::frame`, any other call to `lent::step`, with the record and the room at their own lifetimes.",
-  uses=["use Rattle.rules.specs.Steps.{Step as AnyStep, frame as frameStep}","use Rattle.controller.specs.declared.Call.the-variants.{"+", ".join(CALLS)+"}","use Rattle.controller.specs.Session.{stepOf}","use Rattle.controller.specs.Code.{doneOf, stepFor, roomFor, bytesIn}",f"use {spec}.Interface.{{numberOf, stepEffect}}",f"use {spec}.Code.{{judgedOf, meantOf}}",f"use {spec}.CodeLaws.{{Makes, unmade, called, made}}"]),
+  uses=["use Rattle.rules.specs.Steps.{Step as AnyStep, frame as frameStep}","use Rattle.controller.specs.declared.Call.the-variants.{"+", ".join(CALLS)+"}","use Rattle.controller.specs.Session.{stepOf}","use Rattle.controller.specs.Code.{doneOf, stepFor, roomFor, bytesIn}","use Rattle.numbers.specs.Answers.{numberOf}","use Rattle.numbers.specs.Code.{judgedOf, meantOf}",f"use {spec}.Interface.{{stepEffect}}",f"use {spec}.CodeLaws.{{Makes, unmade, called, made}}"]),
 }
 F=FNS[FN]; params=F["params"]; callees=F["callees"]
 REFS=[n for n,k in params if k[0]=="&"]; life={n:i for i,n in enumerate(REFS)}; NL=len(REFS)

@@ -1,75 +1,24 @@
 -- The exported functions' ends: what their callees say gives what the interface says.
-use mathlib.Core.Path.{_≡_, refl, sym, ap, ap₂, _∙_}
-use Prim.Native.Nat.{ℕ, zero, suc, _%_, _<_}
-use native.Mathlib.Omega.{arith}
+use mathlib.Core.Path.{_≡_, sym, ap, ap₂, _∙_}
+use Prim.Native.Nat.{ℕ}
 use mathlib.Core.Bool.{Bool, true, false, not}
 use mathlib.Core.List.{List}
-use borrow.Author.Tests.{ltb-true, le-ltb, eq-eqb, ne-eqb}
-use lib.Dec.{T as Holds, eqb, ltb, eqb→eq}
+use borrow.Author.Tests.{eq-eqb, ne-eqb}
+use lib.Dec.{T as Holds, eqb, eqb→eq}
 use mir.Facts.{eqb-no}
-use Rattle.masks.specs.Pick.{pick, pick-true, pick-false, by-test}
+use Rattle.masks.specs.Pick.{pick-true, pick-false, by-test}
 use Rattle.rules.specs.declared.Answer.{Answer}
 use Rattle.rules.specs.Flags.{linesOf}
 use Rattle.controller.specs.declared.Controller.{Controller}
 use Rattle.controller.specs.declared.Call.{Call}
-use Rattle.controller.specs.declared.Call.the-variants.{Write, Sync, Slot, Frame, Fault}
 use Rattle.controller.specs.Carry.{resetState}
 use Rattle.controller.specs.Session.{stepOf}
 use Rattle.controller.specs.Code.{doneOf, stepFor, roomFor}
-use Rattle.hevrukan.specs.Interface.{recordSize, unknown, wrongSize, numberOf, Asked, Step, Unknown, addressOf, writeOf, syncOf, slotOf, frameOf, faultOf, callOf, Effect, unchanged, effectOf, stepEffect, resetNext, resetAnswer, linesAnswer}
-use Rattle.hevrukan.specs.Code.{knownOf, judgedOf, syncKindOf, faultKindOf, meantOf}
-
--- ---- numbers that are known stand for the call that is meant, and others for none
-
-abbrev If : Bool → Call → Asked
-If t call = pick t (Step call) Unknown
-
-low : (n : ℕ) → ltb n 256 ≡ true → n ≡ n % 256
-low n e = let h : n < 256 = ltb-true n 256 e in omega arith
-
-write-if : (first second : ℕ) → writeOf first second ≡ If (ltb second 256) (Write (addressOf first) (second % 256))
-unfolding writeOf
-write-if first second =
-    by-test (ltb second 256) (λ e. ap (λ (v : ℕ). If (ltb second 256) (Write (addressOf first) v)) (low second e))
-    (λ e. pick-false _ _ _ e ∙ sym (pick-false _ _ _ e))
-
-sync-if : (first : ℕ) → syncOf first ≡ If (ltb first 2) (Sync (syncKindOf first))
-unfolding syncOf syncKindOf pick
-sync-if zero = refl
-sync-if (suc zero) = refl
-sync-if (suc (suc n)) = sym (pick-false _ _ _ (le-ltb (suc (suc n)) 2 (omega arith)))
-
-slot-if : (first : ℕ) → slotOf first ≡ If (ltb first 256) (Slot (first % 256))
-unfolding slotOf
-slot-if first =
-    by-test (ltb first 256) (λ e. ap (λ (n : ℕ). If (ltb first 256) (Slot n)) (low first e)) (λ e. pick-false _ _ _ e ∙ sym (pick-false _ _ _ e))
-
-frame-if : (first : ℕ) → frameOf first ≡ If (ltb first 2) (Frame (not (eqb first 0)))
-unfolding frameOf pick
-frame-if zero = refl
-frame-if (suc zero) = refl
-frame-if (suc (suc n)) = sym (pick-false _ _ _ (le-ltb (suc (suc n)) 2 (omega arith)))
-
-fault-if : (first : ℕ) → faultOf first ≡ If (ltb first 4) (Fault (faultKindOf first))
-unfolding faultOf faultKindOf pick
-fault-if zero = refl
-fault-if (suc zero) = refl
-fault-if (suc (suc zero)) = refl
-fault-if (suc (suc (suc zero))) = refl
-fault-if (suc (suc (suc (suc n)))) = sym (pick-false _ _ _ (le-ltb (suc (suc (suc (suc n)))) 4 (omega arith)))
-
-call-if : (kind first second : ℕ) → callOf kind first second ≡ If (knownOf kind first second) (meantOf kind first second)
-unfolding callOf knownOf meantOf pick
-call-if zero first second = refl
-call-if (suc zero) first second = refl
-call-if (suc (suc zero)) first second = write-if first second
-call-if (suc (suc (suc zero))) first second = sync-if first
-call-if (suc (suc (suc (suc zero)))) first second = refl
-call-if (suc (suc (suc (suc (suc zero))))) first second = slot-if first
-call-if (suc (suc (suc (suc (suc (suc zero)))))) first second = frame-if first
-call-if (suc (suc (suc (suc (suc (suc (suc zero))))))) first second = fault-if first
-call-if (suc (suc (suc (suc (suc (suc (suc (suc zero)))))))) first second = refl
-call-if (suc (suc (suc (suc (suc (suc (suc (suc (suc n))))))))) first second = refl
+use Rattle.numbers.specs.Answers.{numberOf, wrongSize}
+use Rattle.numbers.specs.Calls.{recordSize, Asked, Step}
+use Rattle.numbers.specs.Code.{knownOf, judgedOf, meantOf}
+use Rattle.numbers.specs.CodeLaws.{call-if, right-known, right-unknown, other-size, judged-size, judged-call}
+use Rattle.hevrukan.specs.Interface.{Effect, unchanged, effectOf, stepEffect, resetNext, resetAnswer, linesAnswer}
 
 -- ---- a step's end, for the number n that the numbers are judged as; how a test came out is a `Holds`
 
@@ -82,33 +31,6 @@ leaves-same {d = d} {n = n} {xs = xs} p q r = ap₂ (λ (x : Controller) (y : �
 not-not : (t : Bool) → Holds (not (not t)) → Holds t
 not-not true h = h
 not-not false h = h
-
-module _ (size kind first second : ℕ) where
-  abbrev judgement : ℕ
-  judgement = judgedOf size kind first second
-
-  right-known : eqb size recordSize ≡ true → knownOf kind first second ≡ true → judgement ≡ 0
-  unfolding judgedOf
-  right-known e k = pick-true _ _ _ e ∙ pick-true _ _ _ k
-
-  right-unknown : eqb size recordSize ≡ true → knownOf kind first second ≡ false → judgement ≡ unknown
-  unfolding judgedOf
-  right-unknown e k = pick-true _ _ _ e ∙ pick-false _ _ _ k
-
-  other-size : eqb size recordSize ≡ false → judgement ≡ wrongSize
-  unfolding judgedOf
-  other-size e = pick-false _ _ _ e
-
-  no-zero : {G : Type 0} {n : ℕ} → judgement ≡ suc n → judgement ≡ 0 → G
-  no-zero e z = absurd (omega (arith, sym e ∙ z))
-
-  judged-size : judgement ≡ 0 → eqb size recordSize ≡ true
-  judged-size z = by-test (eqb size recordSize) (λ e. e) (λ e. no-zero (other-size e) z)
-
-  -- what is judged as 0 stands for the call that is meant
-  pub judged-call : judgement ≡ 0 → callOf kind first second ≡ Step (meantOf kind first second)
-  judged-call z =
-      by-test (knownOf kind first second) (λ k. call-if kind first second ∙ pick-true _ _ _ k) (λ k. no-zero (right-unknown (judged-size z) k) z)
 
 module _ (c : Controller) (size kind first second : ℕ) (frame room : List ℕ) where
   abbrev effect : Effect

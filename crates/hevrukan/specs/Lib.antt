@@ -1,4 +1,3 @@
 pub mod Interface
 pub mod Laws
-pub mod Code
 pub mod CodeLaws

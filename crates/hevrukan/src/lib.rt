@@ -1,21 +1,13 @@
 // The emulated controller for callers in C: a record that the caller owns, and steps on it by numbers. Each function but the
 // first is given the record's size and looks at that alone where it is another, so that a caller that was built for another
 // record is told so.
-mod answers;
-mod calls;
-
 ghost use mathlib.Core.Path.{_≡_};
-ghost use Rattle.hevrukan.specs.Interface.{recordSize, stepEffect, resetNext, resetAnswer, linesAnswer};
+ghost use Rattle.numbers.specs.Calls.{recordSize};
+ghost use Rattle.hevrukan.specs.Interface.{stepEffect, resetNext, resetAnswer, linesAnswer};
 use controller::Call;
 use controller::Controller;
-
-// The bytes of a record: a test holds it to C's sizeof of the same fields.
-const SIZE: usize = 266;
-
-// Answers that no step of the controller has: 256 times 64 and 65.
-const UNKNOWN: u32 = 16384;
-
-const WRONG_SIZE: u32 = 16640;
+use numbers::SIZE;
+use numbers::WRONG_SIZE;
 
 // The bytes of a record.
 #[no_mangle]
@@ -50,16 +42,16 @@ pub extern "C" fn hevrukan_step(
 ) -> u32
     ensures { λ r. ⌜ stepEffect (now (c .entry)) size kind first second (now (frame .entry)) (now (room .entry)) ≡ record { next = now (c .exit); answer = r; room = now (room .exit) } ⌝ }
 {
-    let wrong = calls::judged(size, kind, first, second);
+    let wrong = numbers::calls::judged(size, kind, first, second);
     if wrong != 0 {
         return wrong;
     }
-    let call = calls::meant(kind, first, second);
+    let call = numbers::calls::meant(kind, first, second);
     let answer = match call {
         Call::Frame(good) => lent::frame(c, good, frame),
-        _ => lent::step(c, call, calls::no_frame(), room),
+        _ => lent::step(c, call, numbers::calls::no_frame(), room),
     };
-    answers::number(answer)
+    numbers::answers::number(answer)
 }
 
 // The five lines, 0 to 31: bit 4 FIFO, 3 receive, 2 sync, 1 XSYNC, 0 general.
@@ -70,5 +62,5 @@ pub extern "C" fn hevrukan_lines(c: &Controller, size: usize) -> u32
     if size != SIZE {
         return WRONG_SIZE;
     }
-    answers::wide((*c).lines())
+    numbers::answers::wide((*c).lines())
 }

@@ -50,10 +50,10 @@ use Rattle.controller.proofs.Controller.lines as lines
 use Rattle.controller.proofs.Controller.lines.Symbol as lines-def
 use Rattle.controller.proofs.Controller.lines.Symbol.{name as #lines}
 use Rattle.controller.proofs.Controller.lines.Met as lines-thm
-use Rattle.hevrukan.proofs.answers.wide as wide
-use Rattle.hevrukan.proofs.answers.wide.Symbol as wide-def
-use Rattle.hevrukan.proofs.answers.wide.Symbol.{name as #wide}
-use Rattle.hevrukan.proofs.answers.wide.Met as wide-thm
+use Rattle.numbers.proofs.answers.wide as wide
+use Rattle.numbers.proofs.answers.wide.Symbol as wide-def
+use Rattle.numbers.proofs.answers.wide.Symbol.{name as #wide}
+use Rattle.numbers.proofs.answers.wide.Met as wide-thm
 use Rattle.hevrukan.proofs.hevrukan_lines.Key.{name as #this}
 use Rattle.hevrukan.proofs.hevrukan_lines as this
 use Rattle.hevrukan.proofs.hevrukan_lines.Statement as stated
@@ -211,4 +211,4 @@ hevrukan-lines-spec 𝓤 H 𝓜 𝓖 𝓡 =
     (tables 𝓤 H 𝓜 𝓡 code.env .C) (tables 𝓤 H 𝓜 𝓡 code.env .Λ) #this code.function (code.unfolded 𝓤 H 𝓜 𝓡)
     (meets 𝓤 H (𝓖 .A) (givenOf 𝓤 H 𝓜 𝓖) (𝓜 .mem) (𝓡 .run) (tablesOf 𝓤 H 𝓜 (tables 𝓤 H 𝓜 𝓡 code.env))
     (cited 𝓤 H (Lines 𝓤 H (𝓖 .A) (𝓜 .mem) (𝓡 .run)) 𝓜 𝓡 code.env #lines lines-def.routine code.calls-controller·Controller·lines (lines-thm.met 𝓤 H 𝓜 𝓖 𝓡))
-    (cited 𝓤 H (Wide 𝓤 H (𝓖 .A) (𝓜 .mem) (𝓡 .run)) 𝓜 𝓡 code.env #wide wide-def.routine code.calls-hevrukan·answers·wide (wide-thm.met 𝓤 H 𝓜 𝓖 𝓡)))
+    (cited 𝓤 H (Wide 𝓤 H (𝓖 .A) (𝓜 .mem) (𝓡 .run)) 𝓜 𝓡 code.env #wide wide-def.routine code.calls-numbers·answers·wide (wide-thm.met 𝓤 H 𝓜 𝓖 𝓡)))

@@ -47,8 +47,9 @@ use Rattle.rules.specs.Steps.{Step as AnyStep, frame as frameStep}
 use Rattle.controller.specs.declared.Call.the-variants.{Reset, Read, Write, Sync, SyncDue, Slot, Frame, Fault, Timeout}
 use Rattle.controller.specs.Session.{stepOf}
 use Rattle.controller.specs.Code.{doneOf, stepFor, roomFor, bytesIn}
-use Rattle.hevrukan.specs.Interface.{numberOf, stepEffect}
-use Rattle.hevrukan.specs.Code.{judgedOf, meantOf}
+use Rattle.numbers.specs.Answers.{numberOf}
+use Rattle.numbers.specs.Code.{judgedOf, meantOf}
+use Rattle.hevrukan.specs.Interface.{stepEffect}
 use Rattle.hevrukan.specs.CodeLaws.{Makes, unmade, called, made}
 use Rattle.controller.specs.declared.Controller.{Controller}
 use Rattle.controller.proofs.Controller as T
@@ -62,18 +63,18 @@ use Rattle.controller.proofs.FrameBytes.Laws as Frame-row′
 use Rattle.rules.specs.declared.Answer.{Answer}
 use Rattle.rules.proofs.Answer as Answer-row
 use Rattle.rules.proofs.Answer.Laws as Answer-row′
-use Rattle.hevrukan.proofs.calls.judged as judged
-use Rattle.hevrukan.proofs.calls.judged.Symbol as judged-def
-use Rattle.hevrukan.proofs.calls.judged.Symbol.{name as #judged}
-use Rattle.hevrukan.proofs.calls.judged.Met as judged-thm
-use Rattle.hevrukan.proofs.calls.meant as meant
-use Rattle.hevrukan.proofs.calls.meant.Symbol as meant-def
-use Rattle.hevrukan.proofs.calls.meant.Symbol.{name as #meant}
-use Rattle.hevrukan.proofs.calls.meant.Met as meant-thm
-use Rattle.hevrukan.proofs.calls.no_frame as none
-use Rattle.hevrukan.proofs.calls.no_frame.Symbol as none-def
-use Rattle.hevrukan.proofs.calls.no_frame.Symbol.{name as #none}
-use Rattle.hevrukan.proofs.calls.no_frame.Met as none-thm
+use Rattle.numbers.proofs.calls.judged as judged
+use Rattle.numbers.proofs.calls.judged.Symbol as judged-def
+use Rattle.numbers.proofs.calls.judged.Symbol.{name as #judged}
+use Rattle.numbers.proofs.calls.judged.Met as judged-thm
+use Rattle.numbers.proofs.calls.meant as meant
+use Rattle.numbers.proofs.calls.meant.Symbol as meant-def
+use Rattle.numbers.proofs.calls.meant.Symbol.{name as #meant}
+use Rattle.numbers.proofs.calls.meant.Met as meant-thm
+use Rattle.numbers.proofs.calls.no_frame as none
+use Rattle.numbers.proofs.calls.no_frame.Symbol as none-def
+use Rattle.numbers.proofs.calls.no_frame.Symbol.{name as #none}
+use Rattle.numbers.proofs.calls.no_frame.Met as none-thm
 use Rattle.lent.proofs.frame as framed
 use Rattle.lent.proofs.frame.Symbol as framed-def
 use Rattle.lent.proofs.frame.Symbol.{name as #framed}
@@ -82,10 +83,10 @@ use Rattle.lent.proofs.step as step
 use Rattle.lent.proofs.step.Symbol as step-def
 use Rattle.lent.proofs.step.Symbol.{name as #step}
 use Rattle.lent.proofs.step.Met as step-thm
-use Rattle.hevrukan.proofs.answers.number as number
-use Rattle.hevrukan.proofs.answers.number.Symbol as number-def
-use Rattle.hevrukan.proofs.answers.number.Symbol.{name as #number}
-use Rattle.hevrukan.proofs.answers.number.Met as number-thm
+use Rattle.numbers.proofs.answers.number as number
+use Rattle.numbers.proofs.answers.number.Symbol as number-def
+use Rattle.numbers.proofs.answers.number.Symbol.{name as #number}
+use Rattle.numbers.proofs.answers.number.Met as number-thm
 use Rattle.hevrukan.proofs.hevrukan_step.Key.{name as #this}
 use Rattle.hevrukan.proofs.hevrukan_step as this
 use Rattle.hevrukan.proofs.hevrukan_step.Statement as stated
@@ -428,9 +429,9 @@ hevrukan-step-spec 𝓤 H 𝓜 𝓖 𝓡 =
     entered 𝓤 H (tripleOf 𝓤 H (𝓖 .A) this.signature (this.spec 𝓤 H (𝓖 .A) (𝓜 .mem) (𝓡 .run)))
     (tables 𝓤 H 𝓜 𝓡 code.env .C) (tables 𝓤 H 𝓜 𝓡 code.env .Λ) #this code.function (code.unfolded 𝓤 H 𝓜 𝓡)
     (meets 𝓤 H (𝓖 .A) (givenOf 𝓤 H 𝓜 𝓖) (𝓜 .mem) (𝓡 .run) (tablesOf 𝓤 H 𝓜 (tables 𝓤 H 𝓜 𝓡 code.env))
-    (cited 𝓤 H (Judged 𝓤 H (𝓖 .A) (𝓜 .mem) (𝓡 .run)) 𝓜 𝓡 code.env #judged judged-def.routine code.calls-hevrukan·calls·judged (judged-thm.met 𝓤 H 𝓜 𝓖 𝓡))
-    (cited 𝓤 H (Meant 𝓤 H (𝓖 .A) (𝓜 .mem) (𝓡 .run)) 𝓜 𝓡 code.env #meant meant-def.routine code.calls-hevrukan·calls·meant (meant-thm.met 𝓤 H 𝓜 𝓖 𝓡))
-    (cited 𝓤 H (None 𝓤 H (𝓖 .A) (𝓜 .mem) (𝓡 .run)) 𝓜 𝓡 code.env #none none-def.routine code.calls-hevrukan·calls·no-frame (none-thm.met 𝓤 H 𝓜 𝓖 𝓡))
+    (cited 𝓤 H (Judged 𝓤 H (𝓖 .A) (𝓜 .mem) (𝓡 .run)) 𝓜 𝓡 code.env #judged judged-def.routine code.calls-numbers·calls·judged (judged-thm.met 𝓤 H 𝓜 𝓖 𝓡))
+    (cited 𝓤 H (Meant 𝓤 H (𝓖 .A) (𝓜 .mem) (𝓡 .run)) 𝓜 𝓡 code.env #meant meant-def.routine code.calls-numbers·calls·meant (meant-thm.met 𝓤 H 𝓜 𝓖 𝓡))
+    (cited 𝓤 H (None 𝓤 H (𝓖 .A) (𝓜 .mem) (𝓡 .run)) 𝓜 𝓡 code.env #none none-def.routine code.calls-numbers·calls·no-frame (none-thm.met 𝓤 H 𝓜 𝓖 𝓡))
     (cited 𝓤 H (Framed 𝓤 H (𝓖 .A) (𝓜 .mem) (𝓡 .run)) 𝓜 𝓡 code.env #framed framed-def.routine code.calls-lent·frame (framed-thm.met 𝓤 H 𝓜 𝓖 𝓡))
     (cited 𝓤 H (Step 𝓤 H (𝓖 .A) (𝓜 .mem) (𝓡 .run)) 𝓜 𝓡 code.env #step step-def.routine code.calls-lent·step (step-thm.met 𝓤 H 𝓜 𝓖 𝓡))
-    (cited 𝓤 H (Number 𝓤 H (𝓖 .A) (𝓜 .mem) (𝓡 .run)) 𝓜 𝓡 code.env #number number-def.routine code.calls-hevrukan·answers·number (number-thm.met 𝓤 H 𝓜 𝓖 𝓡)))
+    (cited 𝓤 H (Number 𝓤 H (𝓖 .A) (𝓜 .mem) (𝓡 .run)) 𝓜 𝓡 code.env #number number-def.routine code.calls-numbers·answers·number (number-thm.met 𝓤 H 𝓜 𝓖 𝓡)))

@@ -1,7 +1,7 @@
 // The numbers of the answers.
 ghost use mathlib.Core.Path.{_≡_};
 ghost use Rattle.rules.specs.Answers.{wordOf};
-ghost use Rattle.hevrukan.specs.Interface.{wordNumber, syncNumber, detailNumber, numberOf};
+ghost use Rattle.numbers.specs.Answers.{wordNumber, syncNumber, detailNumber, numberOf};
 use rules::Answer;
 use rules::SyncKind;
 

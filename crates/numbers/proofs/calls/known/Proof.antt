@@ -1,9 +1,9 @@
 use mathlib.Core.Path.{sym}
 use Prim.Native.Nat.{_≤_}
 use native.Mathlib.Omega.{arith}
-use Rattle.hevrukan.proofs.CallLaws.{known-at, past, known-past}
-use Rattle.hevrukan.proofs.calls.known.Statement.{statement}
-use Rattle.hevrukan.proofs.calls.known.Tie as tie
+use Rattle.numbers.proofs.CallLaws.{known-at, past, known-past}
+use Rattle.numbers.proofs.calls.known.Statement.{statement}
+use Rattle.numbers.proofs.calls.known.Tie as tie
 
 pub known-spec : {M : Type 1} → statement M
 known-spec =

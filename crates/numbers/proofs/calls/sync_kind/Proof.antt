@@ -1,9 +1,9 @@
 use mathlib.Core.Path.{sym}
 use borrow.Author.Tests.{eq-eqb, ne-eqb}
 use Rattle.masks.specs.Pick.{pick-true, pick-false}
-use Rattle.hevrukan.specs.Code.{syncKindOf}
-use Rattle.hevrukan.proofs.calls.sync_kind.Statement.{statement}
-use Rattle.hevrukan.proofs.calls.sync_kind.Tie as tie
+use Rattle.numbers.specs.Code.{syncKindOf}
+use Rattle.numbers.proofs.calls.sync_kind.Statement.{statement}
+use Rattle.numbers.proofs.calls.sync_kind.Tie as tie
 
 pub sync-kind-spec : {M : Type 1} → statement M
 unfolding syncKindOf

@@ -2,9 +2,9 @@ use mathlib.Core.Path.{sym, _∙_}
 use borrow.Author.Needs.{needs}
 use borrow.Author.Tests.{eq-eqb, ne-eqb}
 use Rattle.masks.specs.Pick.{pick-true, pick-false}
-use Rattle.hevrukan.specs.Code.{judgedOf}
-use Rattle.hevrukan.proofs.calls.judged.Statement.{statement}
-use Rattle.hevrukan.proofs.calls.judged.Tie as tie
+use Rattle.numbers.specs.Code.{judgedOf}
+use Rattle.numbers.proofs.calls.judged.Statement.{statement}
+use Rattle.numbers.proofs.calls.judged.Tie as tie
 
 pub judged-spec : {M : Type 1} → statement M
 unfolding judgedOf

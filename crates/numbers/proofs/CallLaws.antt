@@ -7,7 +7,7 @@ use mathlib.Core.List.{[], _∷_}
 use lib.ListN.{getD, List·getD-eq-default}
 use Rattle.rules.specs.declared.Fault.the-variants.{Early, Lost, Illegal, Mismatch}
 use Rattle.controller.specs.declared.Call.the-variants.{Timeout}
-use Rattle.hevrukan.specs.Code.{tests, knownOf, faultKindOf, calls, meantOf}
+use Rattle.numbers.specs.Code.{tests, knownOf, faultKindOf, calls, meantOf}
 
 pub known-at : (first second : ℕ) {kind k : ℕ} → kind ≡ k → getD (tests first second) k false ≡ knownOf kind first second
 unfolding knownOf

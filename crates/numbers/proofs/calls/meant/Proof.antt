@@ -3,9 +3,9 @@ use Prim.Native.Nat.{_≤_}
 use native.Mathlib.Omega.{arith}
 use borrow.Author.Needs.{needs}
 use Rattle.controller.specs.declared.Call.the-variants.{Read, Write, Sync, Slot, Fault}
-use Rattle.hevrukan.proofs.CallLaws.{meant-at, past, meant-past}
-use Rattle.hevrukan.proofs.calls.meant.Statement.{statement}
-use Rattle.hevrukan.proofs.calls.meant.Tie as tie
+use Rattle.numbers.proofs.CallLaws.{meant-at, past, meant-past}
+use Rattle.numbers.proofs.calls.meant.Statement.{statement}
+use Rattle.numbers.proofs.calls.meant.Tie as tie
 
 pub meant-spec : {M : Type 1} → statement M
 meant-spec =

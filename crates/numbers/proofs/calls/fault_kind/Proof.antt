@@ -1,9 +1,9 @@
 use mathlib.Core.Path.{ap, sym}
 use native.Mathlib.Omega.{arith}
-use Rattle.hevrukan.specs.Code.{faultKindOf}
-use Rattle.hevrukan.proofs.CallLaws.{fault-past}
-use Rattle.hevrukan.proofs.calls.fault_kind.Statement.{statement}
-use Rattle.hevrukan.proofs.calls.fault_kind.Tie as tie
+use Rattle.numbers.specs.Code.{faultKindOf}
+use Rattle.numbers.proofs.CallLaws.{fault-past}
+use Rattle.numbers.proofs.calls.fault_kind.Statement.{statement}
+use Rattle.numbers.proofs.calls.fault_kind.Tie as tie
 
 pub fault-kind-spec : {M : Type 1} → statement M
 unfolding faultKindOf

@@ -2,9 +2,9 @@ use mathlib.Core.Path.{sym}
 use borrow.Author.Needs.{needs}
 use borrow.Author.Tests.{lt-ltb, le-ltb}
 use Rattle.masks.specs.Pick.{pick-true, pick-false}
-use Rattle.hevrukan.specs.Interface.{addressOf}
-use Rattle.hevrukan.proofs.calls.address.Statement.{statement}
-use Rattle.hevrukan.proofs.calls.address.Tie as tie
+use Rattle.numbers.specs.Calls.{addressOf}
+use Rattle.numbers.proofs.calls.address.Statement.{statement}
+use Rattle.numbers.proofs.calls.address.Tie as tie
 
 pub address-spec : {M : Type 1} → statement M
 unfolding addressOf

@@ -1,4 +1,4 @@
--- The interface in the terms of its code: a kind and its numbers are judged first, and the call is made of them after.
+-- The calls in the terms of their code: a kind and its numbers are judged first, and the call is made of them after.
 use Prim.Native.Nat.{ℕ, _%_}
 use mathlib.Core.Bool.{Bool, true, false, not}
 use mathlib.Core.List.{List, [], _∷_}
@@ -11,7 +11,8 @@ use Rattle.rules.specs.declared.Fault.{Fault as FaultKind}
 use Rattle.rules.specs.declared.Fault.the-variants.{Early, Lost, Illegal, Mismatch}
 use Rattle.controller.specs.declared.Call.{Call}
 use Rattle.controller.specs.declared.Call.the-variants.{Reset, Read, Write, Sync, SyncDue, Slot, Frame, Fault, Timeout}
-use Rattle.hevrukan.specs.Interface.{recordSize, unknown, wrongSize, addressOf}
+use Rattle.numbers.specs.Answers.{unknown, wrongSize}
+use Rattle.numbers.specs.Calls.{recordSize, addressOf}
 
 -- whether the kinds from 0 to 8 stand for a call
 abbrev pub tests : ℕ → ℕ → List Bool

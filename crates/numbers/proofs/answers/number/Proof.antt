@@ -1,9 +1,9 @@
 use Prim.Native.Nat.{ℕ, _+_, _*_}
 use mathlib.Core.Path.{ap₂, _∙_}
 use borrow.Author.Needs.{needs}
-use Rattle.hevrukan.specs.Interface.{numberOf}
-use Rattle.hevrukan.proofs.answers.number.Statement.{statement}
-use Rattle.hevrukan.proofs.answers.number.Tie as tie
+use Rattle.numbers.specs.Answers.{numberOf}
+use Rattle.numbers.proofs.answers.number.Statement.{statement}
+use Rattle.numbers.proofs.answers.number.Tie as tie
 
 pub number-spec : {M : Type 1} → statement M
 unfolding numberOf

@@ -1,0 +1,5 @@
+pub mod Answers
+pub mod Calls
+pub mod Laws
+pub mod Code
+pub mod CodeLaws
