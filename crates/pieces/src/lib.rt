@@ -77,6 +77,14 @@ pub fn gather(held: Held, piece: &[u8], from: usize, to: usize) -> Gathered
     }
 }
 
+// What is held of the bytes from index from to index to, a line having ended before them.
+pub fn held_from(piece: &[u8], from: usize, to: usize) -> Held
+    ensures { λ r. ⌜ r ≡ gatherOf noneHeld (now (piece .entry)) from to .held ⌝ }
+{
+    let g = gather(none(), piece, from, to);
+    g.held
+}
+
 // A line of this number is read.
 pub fn is_read(number: u32) -> bool
     ensures { λ r. ⌜ r ≡ isRead number ⌝ }

@@ -72,12 +72,12 @@ module _ (s : Session) (piece out : List ℕ) {end : ℕ} (n : end ≡ min (leng
   first-lf f = let l : g .ended ≡ true = not-false (g .ended) f in record { before = within .ended l; lf = within .lf l }
 
   -- the first line, the steps of the others, and what is left behind the last LF
-  pub feeds : {r : Fed} {out′ : List ℕ} {f t u : Turn} {next : ℕ} {c : Controller} {room room′ out₁ : List ℕ} {nothing : Held} {h : Gathered} →
+  pub feeds : {r : Fed} {out′ : List ℕ} {f t u : Turn} {next : ℕ} {c : Controller} {room room′ out₁ : List ℕ} {held : Held} →
       not (g .ended) ≡ false → f ≡ opened s (g .at) → next ≡ g .at + 1 → Begins piece end out f (g .held) next t out₁ → room ≡ replicate 14 0 →
-      Plays (s .player .controller) room piece end out₁ t u c room′ out′ → nothing ≡ noneHeld → h ≡ gatherOf nothing piece (u .taken) end → r ≡ closed c u (h .held) end → Feeds s piece out r out′
-  feeds {out′ = out′} {u = u} {c = c} l q m k z p i j d =
+      Plays (s .player .controller) room piece end out₁ t u c room′ out′ → held ≡ gatherOf noneHeld piece (u .taken) end .held → r ≡ closed c u held end → Feeds s piece out r out′
+  feeds {out′ = out′} {u = u} {c = c} l q m k z p i d =
       let w : Settled (feedOf s) piece out end c u out′ = p .played .settles z (feedOf s) out ((rw q at k) .settles (feedOf s) out (s .player .controller) first (first-lf l) m) in
-      rw d (feeds-rest s piece out n w (p .over) (j ∙ ap (λ (x : Held). gatherOf x piece (u .taken) end) i))
+      rw (d ∙ ap (λ (x : Held). closed c u x end) i) (feeds-rest s piece out n w (p .over) refl)
 
 -- ---- the heading
 

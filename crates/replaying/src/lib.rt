@@ -172,8 +172,7 @@ pub fn feed(s: Session, piece: &[u8], out: &mut [u8]) -> Fed
     let lent = in_place::lines_lent(c, &mut room, piece, end, out, t);
     let next = lent.controller;
     let t = lent.turn;
-    let rest = pieces::gather(pieces::none(), piece, t.taken, end);
-    let held = rest.held;
+    let held = pieces::held_from(piece, t.taken, end);
     last(next, t, held, end)
 }
 

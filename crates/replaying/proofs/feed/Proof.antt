@@ -41,28 +41,25 @@ slice-aggregate-lines-lent c = search needs
 lines-lent-requires : tie.Need-lines-lent-requires
 lines-lent-requires c κs = search needs
 
-none-requires : tie.Need-none-requires
-none-requires c κs = search needs
-
-gather-requires-2 : tie.Need-gather-requires-2
-gather-requires-2 c κs = search needs
+held-from-requires : tie.Need-held-from-requires
+held-from-requires c κs = search needs
 
 last-requires : tie.Need-last-requires
 last-requires c κs = search needs
 
 same-length : tie.Need-same-length
 same-length c =
-    let lent = c .before .before .before .before .before .before .before .before .before in
+    let lent = c .before .before .before .before .before .before .before in
     lent .lines-lent .kept .1 .1 .1 .1 .0 ∙ lent .before .before .before .before .before .before .before .begun .kept .1 .1 .0
 
 returns-2 : tie.Need-returns-2
 returns-2 c =
-    let lent = c .before .before .before .before .before .before .before .before .before in
+    let lent = c .before .before .before .before .before .before .before in
     let begun = lent .before .before .before .before .before .before .before in
     let test = begun .before .before .before in
     let gathered = test .before .before in
     feeds _ _ _ (gathered .before .before .least .ensures) (gathered .gather .ensures) (test .if1 .left) (begun .before .first .ensures) refl (begun .begun .ensures) refl
-    (lent .lines-lent .ensures) (c .before .before .before .none .ensures) (c .before .before .gather2 .ensures) (c .last .ensures)
+    (lent .lines-lent .ensures) (c .before .held-from .ensures) (c .last .ensures)
 
 pub feed-spec : {M : Type 1} → statement M
 feed-spec =
@@ -77,8 +74,7 @@ feed-spec =
     begun-requires
     slice-aggregate-lines-lent
     lines-lent-requires
-    none-requires
-    gather-requires-2
+    held-from-requires
     last-requires
     same-length
     returns-2)
