@@ -1,4 +1,4 @@
--- A copy into a list, element by element.
+-- A copy into a list, element by element: the loops of crates receiving and sending.
 use Prim.Native.Nat.{ℕ, _+_, _<_}
 use mathlib.Core.List.{List}
 use mathlib.Core.Path.{_≡_, ap, sym, _∙_}

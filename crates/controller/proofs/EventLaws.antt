@@ -11,7 +11,7 @@ use lib.Seq.{set-out}
 use Rattle.masks.specs.Pick.{pick-true, pick-false, by-test}
 use Rattle.contents.specs.declared.Contents.{Contents}
 use Rattle.contents.specs.Bytes.{noContents, cut, wellSized, storeFrame, bytesFrom, frameOf, fillRoom}
-use Rattle.contents.specs.Room.{roomAfter, room-filled}
+use Rattle.sending.specs.Room.{roomAfter, room-filled}
 use Rattle.rules.specs.Refusals.{refuses11}
 use Rattle.controller.specs.Carry.{rowAt}
 use Rattle.rules.specs.declared.Verdict.{Verdict}

@@ -7,7 +7,7 @@ use lib.Dec.{eqb, ltb}
 use Rattle.masks.specs.Pick.{pick}
 use Rattle.contents.specs.declared.Contents.{Contents}
 use Rattle.contents.specs.Bytes.{blank, withIdent, withLength, withData, storeFrame, frameOf, fillRoom}
-use Rattle.contents.specs.Room.{roomAfter}
+use Rattle.sending.specs.Room.{roomAfter}
 use Rattle.rules.specs.declared.Answer.{Answer}
 use Rattle.rules.specs.declared.Answer.the-variants.{Ok, Value, Sent, Refused}
 use Rattle.rules.specs.declared.Register.{Register}

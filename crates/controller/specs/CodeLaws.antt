@@ -12,7 +12,7 @@ use Rattle.masks.specs.Bits.{maskOf, someOf, highest}
 use Rattle.masks.specs.Search.{some-false}
 use Rattle.contents.specs.declared.Contents.{Contents}
 use Rattle.contents.specs.Bytes.{Head, headOf, blank, dataAt, noContents, fillRoom, frameOf}
-use Rattle.contents.specs.Room.{fill-none}
+use Rattle.sending.specs.Room.{fill-none}
 use Rattle.rules.specs.declared.SyncKind.{SyncKind}
 use Rattle.rules.specs.declared.Fault.{Fault}
 use Rattle.rules.specs.declared.Fault.the-variants.{Early, Lost, Illegal, Mismatch}

@@ -51,7 +51,7 @@ fn stored(c: Control, n: u8, row: Contents, f: &[u8], a: Answer) -> Change
         return with_answer(c, a);
     }
     let b = row.bytes;
-    with_bytes(c, n, contents::store_frame(b, f), a)
+    with_bytes(c, n, receiving::store_frame(b, f), a)
 }
 
 // The control state d with the configuration and the locks of c. No event of the bus changes these: taken from c, from before the
@@ -91,7 +91,7 @@ fn fill(verdict: Verdict, row: Contents, room: &mut [u8])
         Verdict::Say(_) => {}
         Verdict::Store(_, _) => {}
         Verdict::Send(n) => {
-            contents::send(bytes_at(n, row), room);
+            sending::send(bytes_at(n, row), room);
         }
     }
 }
@@ -155,7 +155,7 @@ impl Controller {
             Verdict::Store(n, a) => stored(control, n, row, f, a),
             Verdict::Send(n) => with_answer(
                 control,
-                Answer::Sent(contents::frame_size(bytes_at(n, row))),
+                Answer::Sent(sending::frame_size(bytes_at(n, row))),
             ),
         }
     }
@@ -191,7 +191,7 @@ impl Controller {
         ensures { λ r. ⌜ ruled self (now (f .entry)) r ≡ doneOf (stepOf self (frame good (now (f .entry)))) ⌝ }
     {
         let c = self.control;
-        if !contents::well_sized(f) {
+        if !receiving::well_sized(f) {
             return Ruling {
                 next: c,
                 verdict: Verdict::Say(Answer::Refused(11)),

@@ -11,7 +11,7 @@ use lib.Dec.{eqb, ltb, leb}
 use Rattle.masks.specs.Pick.{pick-keeps}
 use Rattle.contents.specs.declared.Contents.{Contents}
 use Rattle.contents.specs.Bytes.{Head, frameOf, fillRoom}
-use Rattle.contents.specs.Room.{frame-fits, fill-none, fill-size}
+use Rattle.sending.specs.Room.{frame-fits, fill-none, fill-size}
 use Rattle.rules.specs.declared.Answer.{Answer}
 use Rattle.rules.specs.declared.Answer.the-variants.{Ok, Value, Stored, Queued, HeldOff, HeldBack, Sent, Pulse, Refused, Overrun, Unmatched, BadFrame, Ignored, Woke, NotSent}
 use Rattle.rules.specs.declared.Register.{Register}

@@ -2,7 +2,7 @@ use mathlib.Core.List.{List}
 use mathlib.Core.Path.{sym, ap, _∙_}
 use Prim.Native.Nat.{ℕ}
 use borrow.Author.Needs.{needs}
-use Rattle.contents.specs.Room.{roomAfter}
+use Rattle.sending.specs.Room.{roomAfter}
 use Rattle.rules.specs.declared.Verdict.{Verdict}
 use Rattle.controller.specs.Carry.{rowAt}
 use Rattle.controller.specs.Code.{rowOf, roomSent}

@@ -4,11 +4,11 @@ use native.Mathlib.Omega.{arith}
 use borrow.Author.Needs.{needs}
 use borrow.Author.Tests.{ltb-true, ltb-false}
 use lib.ListN.{length}
 use Rattle.contents.specs.Bytes.{taken}
 use Rattle.contents.proofs.Copy.{copied, copied-none, copied-more}
-use Rattle.contents.proofs.Laws.{store-copied}
-use Rattle.contents.proofs.store.Statement.{statement}
-use Rattle.contents.proofs.store.Tie as tie
+use Rattle.receiving.proofs.Laws.{store-copied}
+use Rattle.receiving.proofs.store.Statement.{statement}
+use Rattle.receiving.proofs.store.Tie as tie
 
 -- the first k data bytes are copied
 abbrev Inv-loop : tie.InvT-loop

@@ -1,8 +1,8 @@
 use mathlib.Core.Path.{_∙_}
 use borrow.Author.Needs.{needs}
-use Rattle.contents.proofs.Laws.{store-short, store-rest}
-use Rattle.contents.proofs.store_frame.Statement.{statement}
-use Rattle.contents.proofs.store_frame.Tie as tie
+use Rattle.receiving.proofs.Laws.{store-short, store-rest}
+use Rattle.receiving.proofs.store_frame.Statement.{statement}
+use Rattle.receiving.proofs.store_frame.Tie as tie
 
 byte-or-zero-requires : tie.Need-byte-or-zero-requires
 byte-or-zero-requires c κs = search needs

@@ -1,12 +1,12 @@
 use mathlib.Core.Path.{sym, _∙_}
 use Rattle.contents.specs.declared.Contents.{Contents}
 use Rattle.contents.specs.Payload.{frame-size}
 use borrow.Author.Needs.{needs}
-use Rattle.contents.proofs.frame_size.Statement.{statement}
-use Rattle.contents.proofs.frame_size.Tie as tie
-use Rattle.contents.proofs.frame_size.Reads as reads
-use Rattle.contents.proofs.frame_size.Lts as lts
-use Rattle.contents.proofs.sent_size.Reads as sent-size-reads
+use Rattle.sending.proofs.frame_size.Statement.{statement}
+use Rattle.sending.proofs.frame_size.Tie as tie
+use Rattle.sending.proofs.frame_size.Reads as reads
+use Rattle.sending.proofs.frame_size.Lts as lts
+use Rattle.sending.proofs.sent_size.Reads as sent-size-reads
 
 array-read-sent-size : tie.Need-array-read-sent-size
 array-read-sent-size c = search needs

@@ -3,13 +3,13 @@ use mathlib.Core.Path.{_≡_, sym, _∙_}
 use native.Mathlib.Omega.{arith}
 use borrow.Author.Needs.{needs}
 use lib.ListN.{length, getD, length-set}
 use Rattle.contents.specs.declared.Contents.{Contents}
 use Rattle.contents.specs.Payload.{frame-size}
-use Rattle.contents.specs.Room.{room-kept, room-filled}
+use Rattle.sending.specs.Room.{room-kept, room-filled}
 use Rattle.contents.proofs.Copy.{copied, copied-none}
-use Rattle.contents.proofs.Laws.{room-more, room-copied}
-use Rattle.contents.proofs.send.Statement.{statement}
-use Rattle.contents.proofs.send.Tie as tie
+use Rattle.sending.proofs.Laws.{room-more, room-copied}
+use Rattle.sending.proofs.send.Statement.{statement}
+use Rattle.sending.proofs.send.Tie as tie
 
 -- the bytes below the place are copied
 abbrev Inv-loop : tie.InvT-loop

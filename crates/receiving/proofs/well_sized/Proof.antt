@@ -5,9 +5,9 @@ use borrow.Author.Needs.{needs}
 use borrow.Author.Tests.{ne-eqb}
 use lib.Dec.{eqb}
 use lib.ListN.{getD, length}
 use Rattle.contents.specs.Bytes.{cut}
-use Rattle.contents.proofs.well_sized.Statement.{statement}
-use Rattle.contents.proofs.well_sized.Tie as tie
+use Rattle.receiving.proofs.well_sized.Statement.{statement}
+use Rattle.receiving.proofs.well_sized.Tie as tie
 
 returns : tie.Need-returns
 returns c =
