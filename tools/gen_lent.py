@@ -114,6 +114,7 @@ CELL=lambda c:f"‵ (cellAt fullShare (T.the-row .mir) (mach {par(c)} ∷ []) b 
 OBS=lambda c:f"‵ (fobs γ (T.the-row .coded .code {par(c)}))"
 BOR="‵ (fbor κ (Body (mem T.the-row) b o γ))"
 TOK="‵ (flft κ q)"
+CLOSE="move ! (1 ∷ 0 ∷ []) $ join ! $ nothing ! $ move ! (1 ∷ 0 ∷ []) $ join ! $ done !"
 OPENED={"cell":CELL("h"),"obor":"‵ (fobor κ q (Body (mem T.the-row) b o γ))","obs":OBS("h"),"auth":"‵ (fauth γ (T.the-row .coded .code h))"}
 def opens(w):
     """the borrow of the record h is opened; what it owns is let go, for its relation makes it again"""
@@ -409,9 +410,36 @@ use Rattle.lent.proofs.Element.{elem-at}
 use Rattle.lent.proofs.Rows.{at-rows, values, value-at, row-below, window-below, byte-fits, sixteen-rows, sixteen-values, in-rows, row-is, control-is}"""
 CHANGE_IS=f"""change-is : (x : Change) (vs : List Val) → Is S.the-row x vs → {Cha.is_("x")}
 change-is x vs g = LL.owes S.the-type S′.the-laws x (LL.owed S.the-type S′.the-laws x vs g)
-
-ruling-is : (r : Ruling) (vs : List Val) → Is {Rul.row()} r vs → {Rul.is_("r")}
+"""
+RULING_IS=f"""ruling-is : (r : Ruling) (vs : List Val) → Is {Rul.row()} r vs → {Rul.is_("r")}
 ruling-is r vs g = LL.owes {Rul.a}.the-type {Rul.a}′.the-laws r (LL.owed {Rul.a}.the-type {Rul.a}′.the-laws r vs g)
+"""
+ANSWER_IS=f"""answer-is : (x : Answer) (vs : List Val) → Is {Ans.row()} x vs → {Ans.is_("x")}
+answer-is x vs g = subst (Is {Ans.row()} x) ({Ans.tells()} x vs g) g
+"""
+SESSION="""use Rattle.controller.specs.declared.Done.{Done}
+use Rattle.controller.specs.Session.{stepOf}
+use Rattle.controller.specs.Code.{doneOf, changed}"""
+REC="""  abbrev rec : RefT Controller
+  rec = record { ptr = (b, o); name = γ; now = h }
+"""
+REC_OWN="""  abbrev Rec : Fml
+  Rec = MutRef (named 0) κ T.the-row .own rec (vptr b o ∷ [])
+"""
+def says(goal,had,bound,exits):
+    """what a function of three parameters says of the record and its answer at exit, and that what is had there is enough for it"""
+    return f"""  abbrev Says : Controller → Answer → Type 0
+  Says c m = (c ≡ {goal} .next) × (m ≡ {goal} .answer)
+
+  -- what is had at exit
+  abbrev Had : Controller → List (Item 𝓤)
+  Had c = {had}
+
+  exits : (c : Controller) (m : Answer) → Says c m → {Ans.is_("m")} → ent 𝓤 (⋆ 𝓤 H A (Had c)) (Post ({Ans.val("m")}))
+  exits c m e g =
+      qed W (Had c) ∵
+      suffices ! _ (ends-at 𝓤 H A this.ended stayed (this.clauses 𝓤 H A at-mem run) W {bound} ({Ans.val("m")}) m (c, (tt, (tt, tt))) (tt, (tt, (tt, tt)))) $ says ! e $
+      {exits}
 """
 ASK_ROWS=f"""  abbrev to-rows : Ruling → {rows.at()} .Ghost
   to-rows r = ((tt, tt, tt, (r, tt), ({Rul.val("r")} ∷ [], tt)), tt)
@@ -499,7 +527,6 @@ def frame():
     # ---- what is asked, and what is had at exit
     w=Walk(6); w.ctx=list(end); w.emit("nothing ! $ "); w.give(0,["t"]); w.to(["t-f","t"]); w.emit("join ! $ "); w.give(2,["t"]); w.to(["tok","t"]); w.emit("join ! $ frame ! $\n"); w.give(2,[])
     w.emit("nothing ! $ "); w.give(0,["X"]); w.to(["f","X"]); w.emit("fjoin ! $ "); w.give(2,["X"]); w.emit(owned("good","bool")); w.to(["res","X"]); w.emit("fjoin ! $ frame ! $ "+Ans.owned("m","g")+"done !"); exits=w.text()
-    CLOSE="move ! (1 ∷ 0 ∷ []) $ join ! $ nothing ! $ move ! (1 ∷ 0 ∷ []) $ join ! $ done !"
     def asks(owns):
         w=Walk(6); w.ctx=["t-f","f"]; w.emit("nothing ! $ "); w.give(0,["t"]); w.to(["t-f","t"]); w.emit("join ! $ nothing ! $ "); w.give(2,["X","t"]); w.to(["f","X"]); w.emit("fjoin ! $ "+owns+CLOSE); return w.text()
     GL="(κ, (κ-f, tt))"; GQ="(q, (q-f, tt))"; bound=f"(({GL}, {GQ}, tt, a, at), tt)"; held2=f"({TF} ∷ ‵ Bytes ∷ [])"; nl=chr(10)
@@ -507,9 +534,7 @@ def frame():
 -- reference goes on at its own lifetime. All that the proof knows of the functions called is that they meet their contracts. Written by tools/gen_lent.py.
 {HEAD}
 use Rattle.rules.specs.Steps.{{frame as frameStep}}
-use Rattle.controller.specs.declared.Done.{{Done}}
-use Rattle.controller.specs.Session.{{stepOf}}
-use Rattle.controller.specs.Code.{{doneOf, changed}}
+{SESSION}
 {LOOK}
 {nl.join(d.uses() for d in (Con,Cha,Rul,Row,Ans))}
 use Rattle.rules.proofs.Control.Laws as {Ctl.a}′
@@ -526,24 +551,20 @@ stayed = (gave-ref (0 ∷ []) tt (plain (λ _. T.the-row)), (stay-none (λ _. bo
 {nl.join(c.contract() for c in CS)}
 {OUT_TY}
 {CHANGE_IS}
-answer-is : (x : Answer) (vs : List Val) → Is {Ans.row()} x vs → {Ans.is_("x")}
-answer-is x vs g = subst (Is {Ans.row()} x) ({Ans.tells()} x vs g) g
+{RULING_IS}
+{ANSWER_IS}
 
 -- the code from the row on, written out: taken from the function's own it costs the kernel more
 {L.code("ruling",f"callᴹ #rows ({cp(4)} ∷ [])",piece(9))}
 module _ {G} (W : Given 𝓤 H A) {AM} (κ κ-f : Lft) (q q-f : Share) (b o : ℕ) (γ : GName) (h : Controller) (good : Bool) (b-f o-f : ℕ) (γ-f : GName) (f : List ℕ) (f-room : Room u8 (length f)) where
-  abbrev rec : RefT Controller
-  rec = record {{ ptr = (b, o); name = γ; now = h }}
-
+{REC}
   abbrev f-ref : RefT (List ℕ)
   f-ref = record {{ ptr = (b-f, o-f); name = γ-f; now = f }}
 
   abbrev s-f : Val
   s-f = sliceVal (b-f, o-f) (length f)
 
-  abbrev Rec : Fml
-  Rec = MutRef (named 0) κ T.the-row .own rec (vptr b o ∷ [])
-
+{REC_OWN}
   abbrev Bytes : Fml
   Bytes = ShrSlice (named 1) κ-f u8 .own f-ref (s-f ∷ [])
 
@@ -556,19 +577,7 @@ module _ {G} (W : Given 𝓤 H A) {AM} (κ κ-f : Lft) (q q-f : Share) (b o : �
   abbrev Post : Val → SProp 𝓤
   Post = walkOf 𝓤 H A this.ended stayed (this.clauses 𝓤 H A at-mem run) .post {bound}
 
-  abbrev Says : Controller → Answer → Type 0
-  Says c m = (c ≡ {GOAL} .next) × (m ≡ {GOAL} .answer)
-
-  -- what is had at exit
-  abbrev Had : Controller → List (Item 𝓤)
-  Had c = ‵ (fres γ (T.the-row .coded .code c)) ∷ {TOK} ∷ ‵ Bytes ∷ {TF} ∷ []
-
-  exits : (c : Controller) (m : Answer) → Says c m → {Ans.is_("m")} → ent 𝓤 (⋆ 𝓤 H A (Had c)) (Post ({Ans.val("m")}))
-  exits c m e g =
-      qed W (Had c) ∵
-      suffices ! _ (ends-at 𝓤 H A this.ended stayed (this.clauses 𝓤 H A at-mem run) W {bound} ({Ans.val("m")}) m (c, (tt, (tt, tt))) (tt, (tt, (tt, tt)))) $ says ! e $
-      {exits}
-
+{says(GOAL,f"‵ (fres γ (T.the-row .coded .code c)) ∷ {TOK} ∷ ‵ Bytes ∷ {TF} ∷ []",bound,exits)}
   -- what the triples bind outside, and what they ask
   abbrev args-ruler : Controller × (Bool × (RefT (List ℕ) × Unit {{0}}))
   args-ruler = (h, (good, (f-ref, tt)))
@@ -665,7 +674,6 @@ def write():
     # ---- what is asked, and what is had at exit
     w=Walk(6); w.ctx=list(end); w.emit("nothing ! $ "); w.give(0,["t"]); w.to(["tok","t"]); w.emit("join ! $ frame ! $\n"); w.give(2,[])
     w.emit("nothing ! $ "+owned("u","u8")+owned("n","u8")); w.give(0,["X"]); w.to(["res","X"]); w.emit("fjoin ! $ frame ! $ "+Ans.owned("m","g")+"done !"); exits=w.text()
-    CLOSE="move ! (1 ∷ 0 ∷ []) $ join ! $ nothing ! $ move ! (1 ∷ 0 ∷ []) $ join ! $ done !"
     bound="(((κ, tt), (q, tt), tt, a, at), tt)"; nl=chr(10); cval=f"{Ctl.val('h .control')} ∷ []"
     put(f"""-- `lent::write` meets its contract: a walk of its MIR. The borrow is opened for the control state, and below $50 again for the one row that the window shows; the change goes on to `carry` with the reference at its own lifetime, which
 -- gives back what says its last value. All that the proof knows of the functions called is that they meet their contracts. Written by tools/gen_lent.py.
@@ -675,9 +683,7 @@ use native.Mathlib.Omega.{{arith}}
 use lib.Dec.{{ltb, nltb→le}}
 use Rattle.rules.specs.Steps.{{write as writeStep}}
 use Rattle.rules.specs.Registers.{{registerAt}}
-use Rattle.controller.specs.declared.Done.{{Done}}
-use Rattle.controller.specs.Session.{{stepOf}}
-use Rattle.controller.specs.Code.{{doneOf, changed}}
+{SESSION}
 {LOOK}
 {nl.join(d.uses() for d in (Con,Cha,Ctl,Row,Ans))}
 {nl.join(c.uses() for c in CS)}
@@ -692,10 +698,8 @@ stayed = (gave-ref (0 ∷ []) tt (plain (λ _. T.the-row)), (stay-none (λ _. u8
 -- the contracts that the proof cites
 {nl.join(c.contract() for c in CS)}
 {OUT_TY}
-{CHANGE_IS.split(nl+nl+"ruling-is")[0]}
-
-answer-is : (x : Answer) (vs : List Val) → Is {Ans.row()} x vs → {Ans.is_("x")}
-answer-is x vs g = subst (Is {Ans.row()} x) ({Ans.tells()} x vs g) g
+{CHANGE_IS}
+{ANSWER_IS}
 
 -- the code of the two ways
 {CARRYING(ANS)}
@@ -707,12 +711,8 @@ abbrev code-control : Bodyᴹ
 code-control = seqᴹ ({control_of(8)}) (seqᴹ (callᴹ #controls ({cp(8)} ∷ {cp(2)} ∷ {cp(3)} ∷ []) (placeᴹ 9 [])) (carrying 17 9))
 
 module _ {G} (W : Given 𝓤 H A) {AM} (κ : Lft) (q : Share) (b o : ℕ) (γ : GName) (h : Controller) (n u : ℕ) (n-fits : n < 2 ^ 8) (u-fits : u < 2 ^ 8) where
-  abbrev rec : RefT Controller
-  rec = record {{ ptr = (b, o); name = γ; now = h }}
-
-  abbrev Rec : Fml
-  Rec = MutRef (named 0) κ T.the-row .own rec (vptr b o ∷ [])
-
+{REC}
+{REC_OWN}
   abbrev a : Arg
   a = (rec, (n, (u, tt)))
 
@@ -722,19 +722,7 @@ module _ {G} (W : Given 𝓤 H A) {AM} (κ : Lft) (q : Share) (b o : ℕ) (γ : 
   abbrev Post : Val → SProp 𝓤
   Post = walkOf 𝓤 H A this.ended stayed (this.clauses 𝓤 H A at-mem run) .post {bound}
 
-  abbrev Says : Controller → Answer → Type 0
-  Says c m = (c ≡ {GOAL} .next) × (m ≡ {GOAL} .answer)
-
-  -- what is had at exit
-  abbrev Had : Controller → List (Item 𝓤)
-  Had c = ‵ (fres γ (T.the-row .coded .code c)) ∷ {TOK} ∷ []
-
-  exits : (c : Controller) (m : Answer) → Says c m → {Ans.is_("m")} → ent 𝓤 (⋆ 𝓤 H A (Had c)) (Post ({Ans.val("m")}))
-  exits c m e g =
-      qed W (Had c) ∵
-      suffices ! _ (ends-at 𝓤 H A this.ended stayed (this.clauses 𝓤 H A at-mem run) W {bound} ({Ans.val("m")}) m (c, (tt, (tt, tt))) (tt, (tt, (tt, tt)))) $ says ! e $
-      {exits}
-
+{says(GOAL,f"‵ (fres γ (T.the-row .coded .code c)) ∷ {TOK} ∷ []",bound,exits)}
   -- what the triples bind outside, and what they ask
   abbrev to-windows : {windows.at()} .Ghost
   to-windows = ((tt, tt, tt, (h .control, (n, tt)), ({cval}, (vint w8 n ∷ [], tt))), tt)
@@ -950,7 +938,6 @@ def step():
     w=Walk(6); w.ctx=list(end)
     w.emit("nothing ! $ "); w.give(0,["t"]); w.to(["t-room","t"]); w.emit("join ! $ "); w.give(2,["t"]); w.to(["tok","t"]); w.emit("join ! $ frame ! $\n"); w.give(2,[])
     w.emit("nothing ! $ "); w.give(0,["X"]); w.to(["fin","X"]); w.emit("fjoin ! $ "); w.give(2,["X"]); w.emit(Fra.owned("f","f-is")+"fjoin ! $ "+Cal.owned("call","call-is")+"fjoin ! $ "); w.to(["res","X"]); w.emit("fjoin ! $ frame ! $ "+Ans.owned("m","g")+"done !"); exits=w.text()
-    CLOSE="move ! (1 ∷ 0 ∷ []) $ join ! $ nothing ! $ move ! (1 ∷ 0 ∷ []) $ join ! $ done !"
     def asks(a):
         if a.lent: return ask_lent(a.fn,a.low,a.vars)
         if a.window:
@@ -1028,8 +1015,8 @@ stayed = (gave-ref (0 ∷ []) tt (plain (λ _. T.the-row)), (stay-none (λ _. {C
 {nl.join(c.contract() for c in CS)}
 {OUT_TY}
 {CHANGE_IS}
-answer-is : (x : Answer) (vs : List Val) → Is {Ans.row()} x vs → {Ans.is_("x")}
-answer-is x vs g = subst (Is {Ans.row()} x) ({Ans.tells()} x vs g) g
+{RULING_IS}
+{ANSWER_IS}
 
 -- the code of the arms: a field of the call is taken, the record is copied, a change is carried out
 abbrev taken : ℕ → ℕ → ℕ → Bodyᴹ → Bodyᴹ
@@ -1045,18 +1032,14 @@ abbrev the-match : Bodyᴹ
 the-match = switchᴹ (copyᴹ (placeᴹ 2 (variantᴹ 0 ∷ fieldᴹ 0 ∷ []))) ({match})
 
 module _ {G} (W : Given 𝓤 H A) {AM} (κ κ-room : Lft) (q q-room : Share) (b o : ℕ) (γ : GName) (h : Controller) (f : FrameBytes) (b-room o-room : ℕ) (γ-room : GName) (room : List ℕ) (f-is : {Fra.is_("f")}) (room-room : Room u8 (length room)) where
-  abbrev rec : RefT Controller
-  rec = record {{ ptr = (b, o); name = γ; now = h }}
-
+{REC}
   abbrev room-ref : RefT (List ℕ)
   room-ref = record {{ ptr = (b-room, o-room); name = γ-room; now = room }}
 
   abbrev s-room : Val
   s-room = sliceVal (b-room, o-room) (length room)
 
-  abbrev Rec : Fml
-  Rec = MutRef (named 0) κ T.the-row .own rec (vptr b o ∷ [])
-
+{REC_OWN}
   abbrev Room′ : Fml
   Room′ = MutSlice (named 1) κ-room u8 .own room-ref (s-room ∷ [])
 
