@@ -98,7 +98,7 @@ pub fn meant(kind: u32, first: u32, second: u32) -> Call
     }
 }
 
-// No frame: what a call that looks at none is given.
+// A frame of no bytes: what a call that looks at none is given. Nothing reads what stands behind them.
 pub fn no_frame() -> FrameBytes
     ensures { λ r. ⌜ bytesIn r ≡ [] ⌝ }
 {
