@@ -4,7 +4,7 @@ use mathlib.Core.Bool.{Bool, true, false, not, _&&_, and-true, and-false, and-eq
 use mathlib.Core.List.{List, [], _∷_}
 use mathlib.Core.Path.{_≡_, refl, ap, ap₂, sym, _∙_}
 use native.Mathlib.Omega.{arith}
-use borrow.Author.Tests.{eq-eqb, ne-eqb, eqb-true, eqb-false, lt-ltb, le-ltb, ltb-true, ltb-false, not-true}
+use borrow.Author.Tests.{eq-eqb, eqb-true, eqb-false, lt-ltb, le-ltb, ltb-true, ltb-false, not-true}
 use lib.Dec.{eqb, ltb}
 use lib.ListN.{getD}
 use lib.Bits.{bitAnd}
@@ -36,13 +36,13 @@ unfoldable pub carriesIn : List ℕ → ℕ → ℕ → ℕ → Bool
 carriesIn ids m i n = bitOf m n && eqb (getD ids n 0) i
 
 module _ (ids : List ℕ) (m i n : ℕ) where
-  pub same-ident : {t : Bool} → getD ids n 0 ≡ i → bitOf m n ≡ t → carriesIn ids m i n ≡ t
+  pub in-mask : {t : Bool} → bitOf m n ≡ true → eqb (getD ids n 0) i ≡ t → carriesIn ids m i n ≡ t
   unfolding carriesIn
-  same-ident {t} p q = ap₂ _&&_ q (eq-eqb (getD ids n 0) i p) ∙ and-true t
+  in-mask p q = ap₂ _&&_ p q
 
-  pub other-ident : (getD ids n 0 ≡ i → ⊥) → carriesIn ids m i n ≡ false
+  pub not-in-mask : bitOf m n ≡ false → carriesIn ids m i n ≡ false
   unfolding carriesIn
-  other-ident p = ap (λ (t : Bool). bitOf m n && t) (ne-eqb (getD ids n 0) i p) ∙ and-false (bitOf m n)
+  not-in-mask p = ap (λ (t : Bool). t && eqb (getD ids n 0) i) p
 
 -- ---- a mask without the buffers that have no identifier, taken out on a walk upwards
 

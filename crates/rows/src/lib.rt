@@ -1,8 +1,7 @@
 // The searches over the sixteen buffers' contents: which buffer carries an identifier, and which have one at all.
 // Every function answers for every mask and every identifier; 16 stands for no buffer.
 // The sixteen identifiers are taken out first, at places that the compiler knows: it then reads these sixteen bytes alone, where
-// an index that it doesn't know would have it copy all contents. A search for one buffer leaves at the first hit, and compares the
-// identifier before it asks the mask: nearly every buffer differs in its identifier, so a miss costs one comparison.
+// an index that it doesn't know would have it copy all contents. A search for one buffer leaves at the first hit.
 ghost use mathlib.Core.Path.{_≡_};
 ghost use lib.ListN.{getD};
 ghost use Rattle.rows.specs.Search.{lowestWith, highestWith, namedOf};
@@ -48,7 +47,7 @@ pub fn lowest_with(rows: [Contents; 16], m: u16, i: u8) -> u8
     let mut k: u8 = 0;
     while k < 16 {
         let n = k as usize;
-        if ids[n] == i && masks::test(m, k) {
+        if masks::test(m, k) && ids[n] == i {
             return k;
         }
         k += 1;
@@ -65,7 +64,7 @@ pub fn highest_with(rows: [Contents; 16], m: u16, i: u8) -> u8
     while k > 0 {
         k -= 1;
         let n = k as usize;
-        if ids[n] == i && masks::test(m, k) {
+        if masks::test(m, k) && ids[n] == i {
             return k;
         }
     }

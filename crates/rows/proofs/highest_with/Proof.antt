@@ -5,7 +5,7 @@ use native.Mathlib.Omega.{arith}
 use borrow.Author.Needs.{needs}
 use Rattle.masks.specs.Bits.{highest}
 use Rattle.masks.specs.Search.{highest-hit, highest-miss, highest-end}
-use Rattle.rows.specs.Idents.{carriesIn, same-ident, other-ident, highest-idents}
+use Rattle.rows.specs.Idents.{carriesIn, in-mask, not-in-mask, highest-idents}
 use Rattle.rows.proofs.highest_with.Statement.{statement}
 use Rattle.rows.proofs.highest_with.Tie as tie
 
@@ -28,18 +28,18 @@ sub-k c = search needs
 cast-n : tie.Need-cast-n Inv-loop μ-loop
 cast-n c = search needs
 
-array-read-if1 : tie.Need-array-read-if1 Inv-loop μ-loop
-array-read-if1 c = search needs
-
 test-requires : tie.Need-test-requires Inv-loop μ-loop
 test-requires c κs = search needs
+
+array-read-if2 : tie.Need-array-read-if2 Inv-loop μ-loop
+array-read-if2 c = search needs
 
 returns : tie.Need-returns Inv-loop μ-loop
 returns c =
     let at = c .before .before .before .before in
     let a = at .before .before .args in
     let ids = at .before .idents .result in
-    let found = same-ident ids (a .m) (a .i) _ (c .before .before .if1 .taken) (sym (c .before .test .ensures) ∙ c .if2 .taken) in
+    let found = in-mask ids (a .m) (a .i) _ (sym (c .before .before .test .ensures) ∙ c .before .if1 .taken) (c .if2 .taken) in
     sym (highest-hit (carriesIn ids (a .m) (a .i)) (at .loop .k) (omega arith) found)
     ∙ sym (at .loop .inv .1)
     ∙ highest-idents (a .rows) ids (at .before .idents .ensures) (a .m) (a .i)
@@ -49,12 +49,13 @@ loop-less c = search needs
 
 loop-again : tie.Need-loop-again Inv-loop μ-loop
 loop-again c =
-    let at = c .before .before in
+    let at = c .before .before .before in
     let a = at .before .before .args in
     let ids = at .before .idents .result in
+    let tested = sym (c .before .test .ensures) in
     let missed = ⊎-elim
-    (λ w. same-ident ids (a .m) (a .i) _ (w .0 .taken) (sym (w .1 .ensures) ∙ w .2 .left))
-    (λ w. other-ident ids (a .m) (a .i) _ (w .left))
+    (λ w. in-mask ids (a .m) (a .i) _ (tested ∙ w .0 .taken) (w .1 .left))
+    (λ w. not-in-mask ids (a .m) (a .i) _ (tested ∙ w .left))
     (c .if1 .came) in
     (omega arith, at .loop .inv .1 ∙ highest-miss (carriesIn ids (a .m) (a .i)) (at .loop .k) (omega arith) missed)
 
@@ -77,8 +78,8 @@ highest-with-spec =
     loop-holds
     sub-k
     cast-n
-    array-read-if1
     test-requires
+    array-read-if2
     returns
     loop-less
     loop-again

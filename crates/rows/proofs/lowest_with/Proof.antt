@@ -5,7 +5,7 @@ use native.Mathlib.Omega.{arith}
 use borrow.Author.Needs.{needs}
 use Rattle.masks.specs.Bits.{lowest}
 use Rattle.masks.specs.Search.{lowest-hit, lowest-miss, lowest-end}
-use Rattle.rows.specs.Idents.{carriesIn, same-ident, other-ident, lowest-idents}
+use Rattle.rows.specs.Idents.{carriesIn, in-mask, not-in-mask, lowest-idents}
 use Rattle.rows.proofs.lowest_with.Statement.{statement}
 use Rattle.rows.proofs.lowest_with.Tie as tie
 
@@ -25,18 +25,18 @@ loop-holds c = (omega arith, refl)
 cast-n : tie.Need-cast-n Inv-loop μ-loop
 cast-n c = search needs
 
-array-read-if1 : tie.Need-array-read-if1 Inv-loop μ-loop
-array-read-if1 c = search needs
-
 test-requires : tie.Need-test-requires Inv-loop μ-loop
 test-requires c κs = search needs
+
+array-read-if2 : tie.Need-array-read-if2 Inv-loop μ-loop
+array-read-if2 c = search needs
 
 returns : tie.Need-returns Inv-loop μ-loop
 returns c =
     let at = c .before .before .before .before in
     let a = at .before .before .args in
     let ids = at .before .idents .result in
-    let found = same-ident ids (a .m) (a .i) (at .loop .k) (c .before .before .if1 .taken) (sym (c .before .test .ensures) ∙ c .if2 .taken) in
+    let found = in-mask ids (a .m) (a .i) (at .loop .k) (sym (c .before .before .test .ensures) ∙ c .before .if1 .taken) (c .if2 .taken) in
     sym (lowest-hit (carriesIn ids (a .m) (a .i)) (at .loop .k) (omega arith) found)
     ∙ sym (at .loop .inv .1)
     ∙ lowest-idents (a .rows) ids (at .before .idents .ensures) (a .m) (a .i)
@@ -49,12 +49,13 @@ loop-less c = search needs
 
 loop-again : tie.Need-loop-again Inv-loop μ-loop
 loop-again c =
-    let at = c .before .before in
+    let at = c .before .before .before in
     let a = at .before .before .args in
     let ids = at .before .idents .result in
+    let tested = sym (c .before .test .ensures) in
     let missed = ⊎-elim
-    (λ w. same-ident ids (a .m) (a .i) (at .loop .k) (w .0 .taken) (sym (w .1 .ensures) ∙ w .2 .left))
-    (λ w. other-ident ids (a .m) (a .i) (at .loop .k) (w .left))
+    (λ w. in-mask ids (a .m) (a .i) (at .loop .k) (tested ∙ w .0 .taken) (w .1 .left))
+    (λ w. not-in-mask ids (a .m) (a .i) (at .loop .k) (tested ∙ w .left))
     (c .if1 .came) in
     (omega arith, at .loop .inv .1 ∙ lowest-miss (carriesIn ids (a .m) (a .i)) (at .loop .k) (omega arith) missed)
 
@@ -76,8 +77,8 @@ lowest-with-spec =
     idents-requires
     loop-holds
     cast-n
-    array-read-if1
     test-requires
+    array-read-if2
     returns
     add-k
     loop-less
