@@ -9,11 +9,9 @@ from walk import *
 FN=sys.argv[1]
 crate="hevrukan"; modp=f"Rattle.{crate}.proofs"; spec=f"Rattle.{crate}.specs"
 Cal=Decl("Call","Call-row","enum","controller",False)
-Fra=Decl("FrameBytes","Frame-row","struct","controller",False)
 Ans=Decl("Answer","Answer-row","enum","rules",False)
 # ---- the three functions: parameters, locals behind them, callees, what is to be said
 STEP=[("c","&mut"),("size","usize"),("kind","u32"),("one","u32"),("two","u32"),("bytes","&[u8]"),("room","&mut[u8]")]
-CALLS=["Reset","Read","Write","Sync","SyncDue","Slot","Frame","Fault","Timeout"]; HOLDS={"Read":"n","Write":"n u","Sync":"k","Slot":"n","Frame":"good","Fault":"k"}
 FNS={
  "hevrukan_reset":dict(params=[("c","&mut"),("size","usize")],locals=["tyBool",Con.mir()],decls=[Con],
   callees=[("fresh","Rattle.controller.proofs.Controller.after_reset","controller·Controller·after-reset")],
@@ -21,15 +19,15 @@ FNS={
   told="The size is compared; where it is right the borrow is opened, the record that `Controller::after_reset` returns is stored, and the borrow is closed at it.",
   uses=["use Rattle.controller.specs.Carry.{resetState}",f"use {spec}.Interface.{{resetNext, resetAnswer}}",f"use {spec}.CodeLaws.{{reset-right, reset-wrong}}"]),
  "hevrukan_lines":dict(params=[("c","&"),("size","usize")],locals=["tyBool","byte",Con.mir()],decls=[Con],
-  callees=[("lines","Rattle.controller.proofs.Controller.lines","controller·Controller·lines"),("wide","Rattle.numbers.proofs.answers.wide","numbers·answers·wide")],
+  callees=[("lines","Rattle.controller.proofs.Controller.lines","controller·Controller·lines"),("wide","Rattle.encoding.proofs.answers.wide","encoding·answers·wide")],
   says="(m : ℕ)",said="m",text="m ≡ linesAnswer h size",
   told="The size is compared; where it is right the borrow is looked into for the copy that `Controller::lines` reads, and shut again.",
   uses=["use Rattle.rules.specs.Flags.{linesOf}",f"use {spec}.Interface.{{linesAnswer}}",f"use {spec}.CodeLaws.{{lines-right, lines-wrong}}"]),
- "hevrukan_step":dict(params=STEP,locals=["tyInt w32",Cal.mir(),Ans.mir(),"tyBool","tyBool",Ans.mir(),"tyRef erased mut rec-ty","tyRef erased mut rec-ty",Fra.mir(),"tyRef erased mut byte","sliceTy (tyRef erased mut byte)"],decls=[Con,Cal,Fra,Ans],
-  callees=[("judged","Rattle.numbers.proofs.calls.judged","numbers·calls·judged"),("meant","Rattle.numbers.proofs.calls.meant","numbers·calls·meant"),("none","Rattle.numbers.proofs.calls.no_frame","numbers·calls·no-frame"),("framed","Rattle.lent.proofs.frame","lent·frame"),("step","Rattle.lent.proofs.step","lent·step"),("number","Rattle.numbers.proofs.answers.number","numbers·answers·number")],
+ "hevrukan_step":dict(params=STEP,locals=["tyInt w32",Cal.mir(),Ans.mir(),"tyBool","tyRef erased mut rec-ty","tyRef erased mut byte","sliceTy (tyRef erased mut byte)"],decls=[Con,Cal,Ans],
+  callees=[("judged","Rattle.encoding.proofs.calls.judged","encoding·calls·judged"),("meant","Rattle.encoding.proofs.calls.meant","encoding·calls·meant"),("step","Rattle.in_place.proofs.step","in-place·step"),("number","Rattle.encoding.proofs.answers.number","encoding·answers·number")],
   says="(c : Controller) (m : ℕ) (zs : List ℕ)",said="c m zs",text="stepEffect h size kind one two bytes room ≡ record { next = c; answer = m; room = zs }",
-  told="What stands for no call is answered as it is judged, and the record and the room are given up as they were passed. The switch goes by cases on the call: a frame goes to `lent::frame`, any other call to `lent::step`, with the record and the room at their own lifetimes.",
-  uses=["use Rattle.rules.specs.Steps.{Step as AnyStep, frame as frameStep}","use Rattle.controller.specs.declared.Call.the-variants.{"+", ".join(CALLS)+"}","use Rattle.controller.specs.Session.{stepOf}","use Rattle.controller.specs.Code.{doneOf, stepFor, roomFor, bytesIn}","use Rattle.numbers.specs.Answers.{numberOf}","use Rattle.numbers.specs.Code.{judgedOf, meantOf}",f"use {spec}.Interface.{{stepEffect}}",f"use {spec}.CodeLaws.{{Makes, unmade, called, made}}"]),
+  told="What stands for no call is answered as it is judged, and the record and the room are given up as they were passed. Any other goes to `in_place::step`, with the record, the frame and the room at their own lifetimes.",
+  uses=["use Rattle.controller.specs.Session.{stepOf}","use Rattle.controller.specs.Calls.{doneOf, stepFor, roomFor}","use Rattle.encoding.specs.Answers.{numberOf}","use Rattle.encoding.specs.Code.{judgedOf, meantOf}",f"use {spec}.Interface.{{stepEffect}}",f"use {spec}.CodeLaws.{{Makes, unmade, called, made}}"]),
 }
 F=FNS[FN]; params=F["params"]; callees=F["callees"]
 REFS=[n for n,k in params if k[0]=="&"]; life={n:i for i,n in enumerate(REFS)}; NL=len(REFS)
@@ -234,57 +232,30 @@ else:
     def refused():
         w.copy(8,0,"(tt, record { fits = n-fits })")
         w.to(["c"]); w.emit("fsplit3 ! $ drop ! $ use1 W (‵ (fres γ (T.the-row .coded .code h))) (W .names .obs-res γ (T.the-row .coded .code h)) $\n"); w.give(1,["last","bor"]); untouched()
-        leaves(w,[0,1,2,3,4,5,6,7,8,12],had,"returns-within ! Post refl","exits h n room (unmade h size kind one two bytes room n e t) n-fits refl")
+        leaves(w,[0,1,2,3,4,5,6,7,8,11],had,"returns-within ! Post refl","exits h n room (unmade h size kind one two bytes room n e t) n-fits refl")
     def asked_for(): w.emit("skips ! $ exec ! C Λ En code-4 (atRet En Post) $ calling n e t")
-    tests(w,w.load(8),12,refused,asked_for); two=w.text()
+    tests(w,w.load(8),11,refused,asked_for); two=w.text()
     # the call that is meant
-    w.ctx=list(start2); val3={**VAL,8:"y8",12:"y12"}
+    w.ctx=list(start2); val3={**VAL,8:"y8",11:"y11"}
     calls(w,"meant","to-meant","asked-meant",[],lambda:[w.load(i) for i in (3,4,5)],"call","Call",Cal.row(),"‵ ftrue","tt",MS,"call ≡ meantOf kind one two")
     value(w,Cal.peeks("call","(v ∷ [])")); w.to(["toks"]); w.emit("drop ! $ "); w.give(1,[])
-    w.land(9,LT[9],Cal.typed("call","is"),Cal.same("call","is")); w.emit("first ! $ matched call (call-is call _ is) (called h size kind one two bytes room n call n-e t e)"); three=w.text()
-    # what an arm is given, and its end: its locals are forgotten
-    OF=lambda c:f"Called {c} → "; val4={**val3,9:Cal.val("call")}; NEXT="anyQ Next"
-    def ended(filled,call,facts): w.emit("exec ! C Λ En code-6 (atRet En Post) $ "+"".join(f"forget ! {w.cell(i)} refl $ " for i in filled)); w.nl(); w.keep(had+CELLS+DIES); w.emit(f"numbering {call} p {facts} (answer-is x _ is)")
-    # a frame
-    w.ctx=list(start2); w.again_ref(1,14); untouched()
-    w.to(["bytes"]); w.emit("use1 W (‵ Own-bytes ⊛ ‵ Own-bytes) (shr-slice-copy 𝓤 H A W (named 1) κ-bytes u8 .twice bytes-ref (s-bytes ∷ [])) $ split ! $\n"); w.give(1,["bytes","bytes′"])
-    FS="doneOf (stepOf h (frameStep good bytes))"
-    calls(w,"framed","to-framed good","asked-framed good",["t-c","t-bytes","c","bytes′"],lambda:[w.load(14),w.load(11),w.load(6)],"x","Answer",Ans.row(),"(‵ (flft κ q) ⊛ ‵ (flft κ-bytes q-bytes) ⊛ ‵ ftrue)","(κ, (κ-bytes, tt))","args-framed good",f"(ws .0 ≡ {FS} .next) × (x ≡ {FS} .answer)",last=True)
-    w.emit("fsplit ! $\n"); w.give(1,["last","more"]); w.to(["result"]); w.emit("split ! $ "); w.give(1,["toks","own"]); w.to(["own"]); w.emit(Ans.peeks("x","(v ∷ [])")+"(λ is. drop ! $ split ! $ move ! (1 ∷ []) $ split ! $\n"); w.give(2,["t-bytes","true2","t-c"])
-    w.land(13,LT[13],Ans.typed("x","is"),Ans.same("x","is"),last=True); ended([11,14],"(Frame good)","(ws .0) x room (e .0, e .1, refl) refl"); four=w.text()
-    # any other call: no frame
-    w.ctx=list(start2); w.again_ref(1,15)
-    calls(w,"none","to-none","asked-none",[],lambda:[],"f","FrameBytes",Fra.row(),"‵ ftrue","tt","tt","bytesIn f ≡ []")
-    value(w,Fra.peeks("f","(v ∷ [])")); w.to(["toks"]); w.emit("drop ! $ "); w.give(1,[])
-    w.land(16,LT[16],Fra.typed("f","is"),Fra.same("f","is")); w.keep(begin+CELLS+DIES); w.emit("stepping call c-is p same f (frame-is f _ is)"); five=w.text()
+    w.land(9,LT[9],Cal.typed("call","is"),Cal.same("call","is")); w.emit("stepping call (call-is call _ is) (called h size kind one two bytes room n call n-e t e)"); three=w.text()
     # the step
-    val5={**val4,15:"vptr b o",16:Fra.val("f")}; w.ctx=begin+CELLS+DIES; w.again(7,17,18,"room-room"); ST="doneOf (stepOf h (stepFor call (bytesIn f) room))"
-    calls(w,"step","to-step call f","asked-step call f c-is f-is",["t-c","t-room","c","room"],lambda:[w.load(15),w.load(9),w.load(16),w.load(18)],"x","Answer",Ans.row(),"(‵ (flft κ q) ⊛ ‵ (flft κ-room q-room) ⊛ ‵ ftrue)","(κ, (κ-room, tt))","args-step call f",f"(ws .0 ≡ {ST} .next) × (x ≡ {ST} .answer) × (ws .1 .1 .1 .0 ≡ roomFor h call room)",last=True)
+    OF=f"(call : Call) → {Cal.is_('call')} → Called call → "; val4={**val3,9:Cal.val("call")}; w.ctx=list(start2)
+    w.again_ref(1,12); w.again(7,13,14,"room-room"); w.to(["bytes"]); w.emit("use1 W (‵ Own-bytes ⊛ ‵ Own-bytes) (shr-slice-copy 𝓤 H A W (named 1) κ-bytes u8 .twice bytes-ref (s-bytes ∷ [])) $ split ! $\n"); w.give(1,["bytes","bytes′"])
+    PASSED=["t-c","t-bytes","t-room","c","bytes","room"]; ST="doneOf (stepOf h (stepFor call bytes room))"
+    calls(w,"step","to-step call","asked-step call c-is",[x.replace("bytes","bytes′") if x=="bytes" else x for x in PASSED],lambda:[w.load(12),w.load(9),w.load(6),w.load(14)],"x","Answer",Ans.row(),"(‵ (flft κ q) ⊛ ‵ (flft κ-bytes q-bytes) ⊛ ‵ (flft κ-room q-room) ⊛ ‵ ftrue)","(κ, (κ-bytes, (κ-room, tt)))","args-step call",f"(ws .0 ≡ {ST} .next) × (x ≡ {ST} .answer) × (ws .1 .1 .1 .0 ≡ roomFor h call room)")
     w.emit("fsplit ! $ move ! (1 ∷ []) $ fsplit ! $ drop ! $ fsplit ! $ drop ! $ fsplit ! $ fsplit ! $ move ! (1 ∷ []) $ feqL ! (λ l.\n"); w.give(1,["fin","true","last"])
-    w.to(["result"]); w.emit("split ! $ "); w.give(1,["toks","own"]); w.to(["own"]); w.emit(Ans.peeks("x","(v ∷ [])")+"(λ is. drop ! $ split ! $ move ! (1 ∷ []) $ split ! $\n"); w.give(2,["t-room","true2","t-c"])
-    w.land(13,LT[13],Ans.typed("x","is"),Ans.same("x","is"),last=True)
-    ended([15,16,17,18],"call","(ws .0) x (ws .1 .1 .1 .0) (e .0 ∙ ap (λ (d : AnyStep). doneOf (stepOf h d) .next) (same (bytesIn f)), e .1 ∙ ap (λ (d : AnyStep). doneOf (stepOf h d) .answer) (same (bytesIn f)), e .2) l"); six=w.text()
+    w.to(["result"]); w.emit("split ! $ "); w.give(1,["toks","own"]); w.to(["own"]); w.emit(Ans.peeks("x","(v ∷ [])")+"(λ is. drop ! $ split ! $ "+"move ! (1 ∷ []) $ split ! $ "*2+"\n"); w.give(2,["t-room","true2","t-bytes","t-c"])
+    w.land(10,LT[10],Ans.typed("x","is"),Ans.same("x","is")); w.keep(had+CELLS+DIES); w.emit("numbering call c-is p (ws .0) x (ws .1 .1 .1 .0) e l (answer-is x _ is)"); four=w.text()
     # the number
-    w.ctx=had+CELLS+DIES; filled=[1,2,3,4,5,6,7,8,9,12]; val6={i:f"y{i}" for i in filled}; val6[13]=Ans.val("x")
-    w.copy(13,10,Ans.typed("x","x-is"))
+    w.ctx=had+CELLS+DIES; filled=[1,2,3,4,5,6,7,8,9,11,12,13,14]; val6={i:f"y{i}" for i in filled}; val6[10]=Ans.val("x")
     calls(w,"number","to-number x","asked-number x x-is",[],lambda:[w.load(10)],"m","ℕ","u32","‵ ftrue","tt","(x, tt)","m ≡ numberOf x")
     value(w,number("u32","m")); w.to(["toks"]); w.emit("drop ! $ "); w.give(1,[])
-    lands_number(w,0,"u32","m"); leaves(w,[0]+filled+[10,13],had,"returns !","exits c m zs (made h size kind one two bytes room call p said e) (is .1) l"); seven=w.text()
-    lemma("the answer's number, and the `return`","numbering",us(filled)+f"(call : Call) → {OF('call')}(c : Controller) (x : Answer) (zs : List ℕ) → Said call c x zs → length zs ≡ length room → {Ans.is_('x')} → ","numbering call p c x zs said l x-is",6,had+CELLS+DIES,val6,seven)
-    SAME="((g : List ℕ) → stepFor call g room ≡ stepFor call bytes room) → "; CIS=Cal.is_("call")
-    lemma("the step","stepping",us([8,12])+f"(call : Call) → {CIS} → {OF('call')}{SAME}(f : FrameBytes) → {Fra.is_('f')} → ","stepping call c-is p same f f-is","code-step",begin+CELLS+DIES,val5,six,NEXT)
-    lemma("a call that looks at no frame","other",us([8,12])+f"(call : Call) → {CIS} → {OF('call')}{SAME}","other call c-is p same","arm-other",start2,val4,five,NEXT)
-    lemma("a frame","framing",us([8,9,12])+f"(good : Bool) → {OF('(Frame good)')}","framing good p","code-frame",start2,{**val4,9:"y9",11:"vbool good"},four,NEXT)
-    k9=start2.index("_9"); w.ctx=list(start2); cl=[]
-    for c in CALLS:
-        pat=par(f"{c} {HOLDS[c]}") if c in HOLDS else c; f=f"switches-on ! (load ! (from ! (vrt ! refl (fld ! refl (stop !)))) (look-tag ! {k9} (whole !))) $ exec ! C Λ En {'arm-frame' if c=='Frame' else 'arm-other'} (anyQ Next) $\n          "
-        if c=="Frame": f+=f"assigns ! (of-opd ! (load ! (from ! (vrt ! refl (fld ! refl (stop !)))) (look-in ! {k9} (in-variant ! 6 0 refl refl (whole !))))) (from ! (stop !)) (init ! {w.cell(11)} refl (tt, tt)) $\n          framing good p"
-        else: f+=f"other {pat} i p (λ g. refl)"
-        cl.append(f"      matched {pat} i p =\n          {f}\n")
-    lemmas.append(f"""      -- the switch: what is left computes to the arm that runs
-      matched : {us([8,12])}(call : Call) → {CIS} → {OF('call')}Sq W {at_(start2,val4)} (runs C Λ En the-match (anyQ Next))
-{"".join(cl)}""")
-    lemma("a call to be made","calling",us([8,12])+f"(n : ℕ) → {E0} → Holds (not (not (eqb n 0))) → ","calling n n-e t",4,start2,val3,three)
+    lands_number(w,0,"u32","m"); leaves(w,[0]+filled+[10],had,"returns !","exits c m zs (made h size kind one two bytes room call p said e) (is .1) l"); five=w.text()
+    lemma("the answer's number, and the `return`","numbering",us(filled)+OF+f"(c : Controller) (x : Answer) (zs : List ℕ) → Said call c x zs → length zs ≡ length room → {Ans.is_('x')} → ","numbering call c-is p c x zs said l x-is",6,had+CELLS+DIES,val6,five)
+    lemma("the step","stepping",us([8,11])+OF,"stepping call c-is p",5,start2,val4,four)
+    lemma("a call to be made","calling",us([8,11])+f"(n : ℕ) → {E0} → Holds (not (not (eqb n 0))) → ","calling n n-e t",4,start2,val3,three)
     lemma("no call: the judgement is the answer","tested",f"(n : ℕ) → {E0} → n < 2 ^ 32 → ","tested n e n-fits",2,start2,val2,two)
     lemma("from the first statement on: the judgement","begun","","begun",1,start,VAL,first)
     def ask(ctx,toks,args):
@@ -312,29 +283,14 @@ else:
   asked-meant : ent 𝓤 (emp 𝓤) ({TRIPLE("meant")} .pre to-meant)
   asked-meant = qed W [] ∵ {ask([],[],nums[1:])}
 
-  abbrev to-none : {TRIPLE("none")} .Ghost
-  to-none = ((tt, tt, tt, tt, tt), tt)
+  abbrev args-step : Call → RefT Controller × (Call × (RefT (List ℕ) × (RefT (List ℕ) × Unit {{0}})))
+  args-step call = (rec, (call, (bytes-ref, (room-ref, tt))))
 
-  asked-none : ent 𝓤 (emp 𝓤) ({TRIPLE("none")} .pre to-none)
-  asked-none = qed W [] ∵ {ask([],[],[])}
+  abbrev to-step : Call → {TRIPLE("step")} .Ghost
+  to-step call = (((κ, (κ-bytes, (κ-room, tt))), (q, (q-bytes, (q-room, tt))), tt, args-step call, (vptr b o ∷ [], ({Cal.val("call")} ∷ [], (s-bytes ∷ [], (s-room ∷ [], tt))))), tt)
 
-  abbrev args-framed : Bool → RefT Controller × (Bool × (RefT (List ℕ) × Unit {{0}}))
-  args-framed good = (rec, (good, (bytes-ref, tt)))
-
-  abbrev to-framed : Bool → {TRIPLE("framed")} .Ghost
-  to-framed good = (((κ, (κ-bytes, tt)), (q, (q-bytes, tt)), tt, args-framed good, (vptr b o ∷ [], (vbool good ∷ [], (s-bytes ∷ [], tt)))), tt)
-
-  asked-framed : (good : Bool) → ent 𝓤 (⋆ 𝓤 H A {ASK(["t-c","t-bytes","c","bytes"])}) ({TRIPLE("framed")} .pre (to-framed good))
-  asked-framed good = qed W {ASK(["t-c","t-bytes","c","bytes"])} ∵ {ask(["t-c","t-bytes","c","bytes"],["t-c","t-bytes"],["c","owned ! boolean (Is boolean) (bool-makes 𝓤 H A W) good _ refl $ ","bytes"])}
-
-  abbrev args-step : Call → FrameBytes → RefT Controller × (Call × (FrameBytes × (RefT (List ℕ) × Unit {{0}})))
-  args-step call f = (rec, (call, (f, (room-ref, tt))))
-
-  abbrev to-step : Call → FrameBytes → {TRIPLE("step")} .Ghost
-  to-step call f = (((κ, (κ-room, tt)), (q, (q-room, tt)), tt, args-step call f, (vptr b o ∷ [], ({Cal.val("call")} ∷ [], ({Fra.val("f")} ∷ [], (s-room ∷ [], tt))))), tt)
-
-  asked-step : (call : Call) (f : FrameBytes) → {Cal.is_("call")} → {Fra.is_("f")} → ent 𝓤 (⋆ 𝓤 H A {ASK(["t-c","t-room","c","room"])}) ({TRIPLE("step")} .pre (to-step call f))
-  asked-step call f c-is f-is = qed W {ASK(["t-c","t-room","c","room"])} ∵ {ask(["t-c","t-room","c","room"],["t-c","t-room"],["c",Cal.owned("call","c-is"),Fra.owned("f","f-is"),"room"])}
+  asked-step : (call : Call) → {Cal.is_("call")} → ent 𝓤 (⋆ 𝓤 H A {ASK(PASSED)}) ({TRIPLE("step")} .pre (to-step call))
+  asked-step call c-is = qed W {ASK(PASSED)} ∵ {ask(PASSED,PASSED[:3],["c",Cal.owned("call","c-is"),"bytes","room"])}
 
   abbrev to-number : Answer → {TRIPLE("number")} .Ghost
   to-number x = ((tt, tt, tt, (x, tt), ({Ans.val("x")} ∷ [], tt)), tt)
@@ -407,37 +363,21 @@ same-is c vs g = LL.owes T.the-type T′.the-laws c (LL.owed T.the-type T′.the
 call-is : (x : Call) (vs : List Val) → Is {Cal.row()} x vs → {Cal.is_("x")}
 call-is x vs g = subst (Is {Cal.row()} x) ({Cal.tells()} x vs g) g
 
-frame-is : (f : FrameBytes) (vs : List Val) → Is {Fra.row()} f vs → {Fra.is_("f")}
-frame-is f vs g = LL.owes Frame-row.the-type Frame-row′.the-laws f (LL.owed Frame-row.the-type Frame-row′.the-laws f vs g)
-
 answer-is : (x : Answer) (vs : List Val) → Is {Ans.row()} x vs → {Ans.is_("x")}
 answer-is x vs g = subst (Is {Ans.row()} x) ({Ans.tells()} x vs g) g
 
--- the code of the arms
-abbrev code-frame : Bodyᴹ
-code-frame = {SEQ(LEND(14))} (callᴹ #framed ({CP(14)} ∷ {CP(11)} ∷ {CP(6)} ∷ []) (placeᴹ 13 []))
-
-abbrev arm-frame : Bodyᴹ
-arm-frame = {SEQ("assignᴹ (placeᴹ 11 []) (rvOpd (copyᴹ (placeᴹ 9 (variantᴹ 6 ∷ fieldᴹ 1 ∷ []))))")} code-frame
-
-abbrev code-step : Bodyᴹ
-code-step = {SEQ("assignᴹ (placeᴹ 17 []) (addrOf (placeᴹ 7 (fieldᴹ 0 ∷ deref byte ∷ [])))")} ({SEQ(f"assignᴹ (placeᴹ 18 []) (aggregate ({CP(17)} ∷ copyᴹ (placeᴹ 7 (fieldᴹ 1 ∷ [])) ∷ []))")} (callᴹ #step ({CP(15)} ∷ {CP(9)} ∷ {CP(16)} ∷ {CP(18)} ∷ []) (placeᴹ 13 [])))
-
-abbrev arm-other : Bodyᴹ
-arm-other = {SEQ(LEND(15))} ({SEQ("callᴹ #none [] (placeᴹ 16 [])")} code-step)
-
-abbrev the-match : Bodyᴹ
-the-match = switchᴹ (copyᴹ (placeᴹ 9 (variantᴹ 0 ∷ fieldᴹ 0 ∷ []))) (armᴹ (6 ∷ []) arm-frame (armᴹ (0 ∷ 1 ∷ 2 ∷ 3 ∷ 4 ∷ 5 ∷ 7 ∷ 8 ∷ []) arm-other noDefault))
-
 -- the code from where each lemma begins, written out: the function's own pieces are computed anew at each step of a walk
 abbrev code-6 : Bodyᴹ
-code-6 = {SEQ(f"assignᴹ (placeᴹ 10 []) (rvOpd ({CP(13)}))")} ({SEQ(f"callᴹ #number ({CP(10)} ∷ []) (placeᴹ 0 [])")} returnᴹ)
+code-6 = {SEQ(f"callᴹ #number ({CP(10)} ∷ []) (placeᴹ 0 [])")} returnᴹ
+
+abbrev code-5 : Bodyᴹ
+code-5 = {SEQ(LEND(12))} ({SEQ("assignᴹ (placeᴹ 13 []) (addrOf (placeᴹ 7 (fieldᴹ 0 ∷ deref byte ∷ [])))")} ({SEQ(f"assignᴹ (placeᴹ 14 []) (aggregate ({CP(13)} ∷ copyᴹ (placeᴹ 7 (fieldᴹ 1 ∷ [])) ∷ []))")} ({SEQ(f"callᴹ #step ({CP(12)} ∷ {CP(9)} ∷ {CP(6)} ∷ {CP(14)} ∷ []) (placeᴹ 10 [])")} code-6)))
 
 abbrev code-4 : Bodyᴹ
-code-4 = {SEQ(f"callᴹ #meant ({CP(3)} ∷ {CP(4)} ∷ {CP(5)} ∷ []) (placeᴹ 9 [])")} (seqᴹ the-match code-6)
+code-4 = {SEQ(f"callᴹ #meant ({CP(3)} ∷ {CP(4)} ∷ {CP(5)} ∷ []) (placeᴹ 9 [])")} code-5
 
 abbrev code-2 : Bodyᴹ
-code-2 = {SEQ(f"assignᴹ (placeᴹ 12 []) (op2 ne ({CP(8)}) (intᴹ w32 0))")} (seqᴹ (condᴹ ({CP(12)}) ({SEQ(f"assignᴹ (placeᴹ 0 []) (rvOpd ({CP(8)}))")} returnᴹ) skipᴹ) code-4)
+code-2 = {SEQ(f"assignᴹ (placeᴹ 11 []) (op2 ne ({CP(8)}) (intᴹ w32 0))")} (seqᴹ (condᴹ ({CP(11)}) ({SEQ(f"assignᴹ (placeᴹ 0 []) (rvOpd ({CP(8)}))")} returnᴹ) skipᴹ) code-4)
 
 abbrev code-1 : Bodyᴹ
 code-1 = {SEQ(f"callᴹ #judged ({CP(2)} ∷ {CP(3)} ∷ {CP(4)} ∷ {CP(5)} ∷ []) (placeᴹ 8 [])")} code-2

@@ -1,11 +1,11 @@
 #!/usr/bin/env python3
-"""Write the walk of `line_in_place`: usage: gen_line.py > proofs/in_place/line_in_place/Proof.antt, then rt fmt."""
+"""Write the walk of `line_in_place`: usage: gen_line.py > proofs/piece_loop/line_in_place/Proof.antt, then rt fmt."""
 import os,sys
 sys.path.insert(0,os.path.dirname(os.path.abspath(__file__)))
 from walk import *
 Tal=Decl("Tally","Tally-row","struct",crate,True)
 Cal=Decl("Call","Call-row","enum","controller",False)
-Fra=Decl("FrameBytes","Frame-row","struct","controller",False)
+Fra=Decl("FrameBytes","Frame-row","struct","lines",False)
 Ans=Decl("Answer","Answer-row","enum","rules",False)
 REFS=["c","room","piece","out"]
 kap=lambda n:"κ" if n=="c" else f"κ-{n}"
@@ -163,7 +163,7 @@ asked3=w.text()
 ASK3=lst([tok("room"),tok("piece"),tok("out"),f"‵ ({RoomI('κ-room','γ-room','zs','(length zs)')})","‵ Piece","‵ Out′"])
 # ---- the file
 path=lambda i:" .1"*i+" .0"
-print(f'''-- `replaying::in_place::line_in_place` meets its contract: a walk of its MIR. The record and the room are lent again to `lent::step`, each for a lifetime that is made for the call, and come back; the borrow is opened for
+print(f'''-- `replaying::piece_loop::line_in_place` meets its contract: a walk of its MIR. The record and the room are lent again to `step`, each for a lifetime that is made for the call, and come back; the borrow is opened for
 -- the copy that `Controller::lines` reads, and closed at the same record; the room and the rows' room are passed on to `turns::answered`. All that the proof knows of these functions is that they meet their contracts. Written by tools/gen_line.py.
 -- Assumes nothing.
 use mathlib.Core.Path.{{_≡_, refl, ap, sym, _∙_, subst}}
@@ -211,17 +211,18 @@ use denote.Triple.Walked.{{says, Stays, stay-ref, stay-none, stay-none-slice, ga
 use denote.Exit.{{yes}}
 use Rattle.rules.specs.Flags.{{linesOf}}
 use Rattle.controller.specs.Session.{{stepOf}}
-use Rattle.controller.specs.Code.{{doneOf, stepFor, roomFor, bytesIn}}
-use {spec}.Turn.{{Answers, Steps}}
+use Rattle.controller.specs.Calls.{{doneOf, stepFor, roomFor}}
+use Rattle.lines.specs.Grammar.{{bytesIn}}
+use {spec}.CodeTurn.{{Answers, Steps}}
 use {spec}.TurnLaws.{{steps}}
 {chr(10).join(d.uses() for d in (Con,Tur))}
 use {modp}.Tally.Laws as Tally-row′
 {chr(10).join(d.uses() for d in (Cal,Fra,Ans))}
 use {modp}.Again as Sl
-use Rattle.lent.proofs.step as step
-use Rattle.lent.proofs.step.Symbol as step-def
-use Rattle.lent.proofs.step.Symbol.{{name as #step}}
-use Rattle.lent.proofs.step.Met as step-thm
+use {modp}.piece_loop.step as step
+use {modp}.piece_loop.step.Symbol as step-def
+use {modp}.piece_loop.step.Symbol.{{name as #step}}
+use {modp}.piece_loop.step.Met as step-thm
 use Rattle.controller.proofs.Controller.lines as lines
 use Rattle.controller.proofs.Controller.lines.Symbol as lines-def
 use Rattle.controller.proofs.Controller.lines.Symbol.{{name as #lines}}
@@ -230,11 +231,11 @@ use {modp}.turns.answered as answered
 use {modp}.turns.answered.Symbol as answered-def
 use {modp}.turns.answered.Symbol.{{name as #answered}}
 use {modp}.turns.answered.Met as answered-thm
-use {modp}.in_place.line_in_place.Key.{{name as #this}}
-use {modp}.in_place.line_in_place as this
-use {modp}.in_place.line_in_place.Statement as stated
-use {modp}.in_place.line_in_place.Code as code
-use {modp}.in_place.line_in_place.Code.Mir as pieces
+use {modp}.piece_loop.line_in_place.Key.{{name as #this}}
+use {modp}.piece_loop.line_in_place as this
+use {modp}.piece_loop.line_in_place.Statement as stated
+use {modp}.piece_loop.line_in_place.Code as code
+use {modp}.piece_loop.line_in_place.Code.Mir as pieces
 
 abbrev Arg : Type 0
 Arg = RefT Controller × (RefT (List ℕ) × (RefT (List ℕ) × (ℕ × (RefT (List ℕ) × (Turn × Unit {{0}})))))
@@ -374,7 +375,7 @@ S="plain (λ _. u8)"
 VALS=["ptr-vals","slice-vals","slice-vals","uint-vals w64","slice-vals",Tur.vals()]
 TELLS=[f"mut-tells (named 0) ({kp(0)}) T.the-row",f"mut-slice-tells (named 1) ({kp(1)}) u8",f"shr-slice-tells (named 2) ({kp(2)}) u8","uint-tells w64",f"mut-slice-tells (named 3) ({kp(3)}) u8",Tur.tells()]
 GOES=["goes-ref 𝓤 H A W 4 0 tt (plain (λ _. T.the-row))",f"goes-gave-slice 𝓤 H A W 4 1 tt ({S})",f"goes-none-slice 𝓤 H A W 4 (2 ∷ []) tt ({S}) yes","goes-none 𝓤 H A W 4 (λ _. usize) yes (λ κs x f. refl)",f"goes-gave-slice 𝓤 H A W 4 3 tt ({S})","goes-none 𝓤 H A W 4 (λ _. U.the-row) yes (λ κs x f. refl)"]
-CITES=[f"(cited 𝓤 H ({n} 𝓤 H (𝓖 .A) (𝓜 .mem) (𝓡 .run)) 𝓜 𝓡 code.env #{a} {a}-def.routine code.calls-{k} ({a}-thm.met 𝓤 H 𝓜 𝓖 𝓡))" for n,a,k in [("Step","step","lent·step"),("Lines","lines","controller·Controller·lines"),("Answered","answered","replaying·turns·answered")]]
+CITES=[f"(cited 𝓤 H ({n} 𝓤 H (𝓖 .A) (𝓜 .mem) (𝓡 .run)) 𝓜 𝓡 code.env #{a} {a}-def.routine code.calls-{k} ({a}-thm.met 𝓤 H 𝓜 𝓖 𝓡))" for n,a,k in [("Step","step","replaying·piece-loop·step"),("Lines","lines","controller·Controller·lines"),("Answered","answered","replaying·turns·answered")]]
 KN="known known-lines known-answered"
 KT="Triple 𝓤 ({C} #step) (Step 𝓤 H A at-mem run) → Triple 𝓤 ({C} #lines) (Lines 𝓤 H A at-mem run) → Triple 𝓤 ({C} #answered) (Answered 𝓤 H A at-mem run)"
 print(f'''    walk : ent 𝓤 (onEntry 𝓤 H A this.signature {tup(kap(n) for n in REFS)} {tup(q(n) for n in REFS)} a at) (WpFn 𝓤 H C Λ code.function {FV} Post)

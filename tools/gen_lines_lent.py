@@ -1,5 +1,5 @@
 #!/usr/bin/env python3
-"""Write the walk of `lines_lent`: usage: gen_lines_lent.py > proofs/in_place/lines_lent/Proof.antt, then rt fmt."""
+"""Write the walk of `lines_lent`: usage: gen_lines_lent.py > proofs/piece_loop/lines_lent/Proof.antt, then rt fmt."""
 import os,sys
 sys.path.insert(0,os.path.dirname(os.path.abspath(__file__)))
 from walk import *
@@ -106,10 +106,10 @@ S="plain (λ _. u8)"
 VALS=[Con.vals(),"slice-vals","slice-vals","uint-vals w64","slice-vals",Tur.vals()]
 TELLS=[Con.tells(),f"mut-slice-tells (named 0) ({kp(0)}) u8",f"shr-slice-tells (named 1) ({kp(1)}) u8","uint-tells w64",f"mut-slice-tells (named 2) ({kp(2)}) u8",Tur.tells()]
 GOES=["goes-none 𝓤 H A W 3 (λ _. T.the-row) yes (λ κs x f. refl)",f"goes-gave-slice 𝓤 H A W 3 0 tt ({S})",f"goes-none-slice 𝓤 H A W 3 (1 ∷ []) tt ({S}) yes","goes-none 𝓤 H A W 3 (λ _. usize) yes (λ κs x f. refl)",f"goes-gave-slice 𝓤 H A W 3 2 tt ({S})","goes-none 𝓤 H A W 3 (λ _. U.the-row) yes (λ κs x f. refl)"]
-CITES=["(cited 𝓤 H (Lines 𝓤 H (𝓖 .A) (𝓜 .mem) (𝓡 .run)) 𝓜 𝓡 code.env #lines lines-def.routine code.calls-replaying·in-place·lines-in-place (lines-thm.met 𝓤 H 𝓜 𝓖 𝓡))"]
+CITES=["(cited 𝓤 H (Lines 𝓤 H (𝓖 .A) (𝓜 .mem) (𝓡 .run)) 𝓜 𝓡 code.env #lines lines-def.routine code.calls-replaying·piece-loop·lines-in-place (lines-thm.met 𝓤 H 𝓜 𝓖 𝓡))"]
 KQ=tup(kap(n) for n in REFS); QQ=tup(q(n) for n in REFS)
 BOUND=f"(({KQ}, {QQ}, tt, a, at), tt)"
-print(f'''-- `replaying::in_place::lines_lent` meets its contract: a walk of its MIR. The record is copied into a local, which is lent to `lines_in_place` for a lifetime that is made for the call, and is back at the last record (`Local.antt`). The slices are passed on. Written by tools/gen_lines_lent.py.
+print(f'''-- `replaying::piece_loop::lines_lent` meets its contract: a walk of its MIR. The record is copied into a local, which is lent to `lines_in_place` for a lifetime that is made for the call, and is back at the last record (`Local.antt`). The slices are passed on. Written by tools/gen_lines_lent.py.
 -- Assumes nothing.
 use mathlib.Core.Path.{{_≡_, refl, ap}}
 use Prim.Native.Nat.{{ℕ, _<_, _^_}}
@@ -151,18 +151,18 @@ use denote.Triple.Clauses.{{ensured, lasts, Lasts}}
 use denote.Triple.Table.{{entered, cited}}
 use denote.Triple.Walked.{{says, Stays, stay-none, stay-none-slice, gave-slice, walkOf, AllGo, goes-none, goes-none-slice, goes-gave-slice, Walks, ends-at, walked, walk-meets}}
 use denote.Exit.{{yes}}
-use {spec}.Turn.{{Plays}}
+use {spec}.CodeTurn.{{Plays}}
 {chr(10).join(d.uses() for d in (Con,Tur,Len))}
 use {modp}.Local.{{lends-local, local-back}}
-use {modp}.in_place.lines_in_place as lines
-use {modp}.in_place.lines_in_place.Symbol as lines-def
-use {modp}.in_place.lines_in_place.Symbol.{{name as #lines}}
-use {modp}.in_place.lines_in_place.Met as lines-thm
-use {modp}.in_place.lines_lent.Key.{{name as #this}}
-use {modp}.in_place.lines_lent as this
-use {modp}.in_place.lines_lent.Statement as stated
-use {modp}.in_place.lines_lent.Code as code
-use {modp}.in_place.lines_lent.Code.Mir as pieces
+use {modp}.piece_loop.lines_in_place as lines
+use {modp}.piece_loop.lines_in_place.Symbol as lines-def
+use {modp}.piece_loop.lines_in_place.Symbol.{{name as #lines}}
+use {modp}.piece_loop.lines_in_place.Met as lines-thm
+use {modp}.piece_loop.lines_lent.Key.{{name as #this}}
+use {modp}.piece_loop.lines_lent as this
+use {modp}.piece_loop.lines_lent.Statement as stated
+use {modp}.piece_loop.lines_lent.Code as code
+use {modp}.piece_loop.lines_lent.Code.Mir as pieces
 
 abbrev Arg : Type 0
 Arg = Controller × (RefT (List ℕ) × (RefT (List ℕ) × (ℕ × (RefT (List ℕ) × (Turn × Unit {{0}})))))

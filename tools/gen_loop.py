@@ -1,5 +1,5 @@
 #!/usr/bin/env python3
-"""Write the walk of `lines_in_place`: usage: gen_loop.py > proofs/in_place/lines_in_place/Proof.antt, then rt fmt."""
+"""Write the walk of `lines_in_place`: usage: gen_loop.py > proofs/piece_loop/lines_in_place/Proof.antt, then rt fmt."""
 import os,sys
 sys.path.insert(0,os.path.dirname(os.path.abspath(__file__)))
 from walk import *
@@ -111,7 +111,7 @@ for i in (0,1,2,3,4,5): wargs.append(f"({pa(i)} .ptr .0) ({pa(i)} .ptr .1) ({pa(
 wargs+=[f"({ar(1)} .0 .1)",f"({ar(2)} .0 .1)",f"({ar(3)} .1)",f"({ar(4)} .0 .1)",f"({ar(5)})"]
 BOUND=f"(({tup(kap(n) for n in REFS)}, {tup(q(n) for n in REFS)}, tt, a, at), tt)"
 SQ="Sq W (I s) (runs C Λ En pieces.turn-1 (anyQ (afterTurn 𝓤 H (Below 𝓤 H A (≺ "+PS+") I s) Left)))"
-print(f'''-- `replaying::in_place::lines_in_place` meets its contract: a walk of its MIR with a loop. A turn lends the record, the room and the rows' room again, each for a lifetime that is made for the call, calls `line_in_place`, and has them back.
+print(f'''-- `replaying::piece_loop::lines_in_place` meets its contract: a walk of its MIR with a loop. A turn lends the record, the room and the rows' room again, each for a lifetime that is made for the call, calls `line_in_place`, and has them back.
 -- The loop's index is a `State`: where the loop stands, the record and the two rooms so far, and that the turns so far led there. The order is that of the steps that are left. Written by tools/gen_loop.py.
 -- Assumes nothing.
 use mathlib.Core.Path.{{_≡_, refl, ap, sym, _∙_, subst}}
@@ -157,23 +157,23 @@ use denote.Triple.Clauses.{{ensured, lasts, Lasts}}
 use denote.Triple.Table.{{entered, cited}}
 use denote.Triple.Walked.{{says, Stays, stay-ref, stay-none, stay-none-slice, stay-slice, walkOf, AllGo, goes-none, goes-none-slice, goes-slice, goes-ref, Walks, ends-at, walked, walk-meets}}
 use denote.Exit.{{yes}}
-use {spec}.Turn.{{left, Steps, Played}}
+use {spec}.CodeTurn.{{left, Steps, Played}}
 use {spec}.TurnLaws.{{steps-nearer, played-none, played-more, played-all}}
 {Con.uses(False)}
 {Tur.uses()}
 use {modp}.Tally.Laws as Tally-row′
 use Rattle.controller.proofs.Call.Laws as Call-row′
-use Rattle.controller.proofs.FrameBytes.Laws as Frame-row′
+use Rattle.lines.proofs.FrameBytes.Laws as Frame-row′
 use {modp}.Again as Sl
-use {modp}.in_place.line_in_place as line
-use {modp}.in_place.line_in_place.Symbol as line-def
-use {modp}.in_place.line_in_place.Symbol.{{name as #line}}
-use {modp}.in_place.line_in_place.Met as line-thm
-use {modp}.in_place.lines_in_place.Key.{{name as #this}}
-use {modp}.in_place.lines_in_place as this
-use {modp}.in_place.lines_in_place.Statement as stated
-use {modp}.in_place.lines_in_place.Code as code
-use {modp}.in_place.lines_in_place.Code.Mir as pieces
+use {modp}.piece_loop.line_in_place as line
+use {modp}.piece_loop.line_in_place.Symbol as line-def
+use {modp}.piece_loop.line_in_place.Symbol.{{name as #line}}
+use {modp}.piece_loop.line_in_place.Met as line-thm
+use {modp}.piece_loop.lines_in_place.Key.{{name as #this}}
+use {modp}.piece_loop.lines_in_place as this
+use {modp}.piece_loop.lines_in_place.Statement as stated
+use {modp}.piece_loop.lines_in_place.Code as code
+use {modp}.piece_loop.lines_in_place.Code.Mir as pieces
 
 abbrev Arg : Type 0
 Arg = RefT Controller × (RefT (List ℕ) × (RefT (List ℕ) × (ℕ × (RefT (List ℕ) × (Turn × Unit {{0}})))))
@@ -341,4 +341,4 @@ lines-in-place-spec 𝓤 H 𝓜 𝓖 𝓡 =
     entered 𝓤 H (tripleOf 𝓤 H (𝓖 .A) this.signature (this.spec 𝓤 H (𝓖 .A) (𝓜 .mem) (𝓡 .run)))
     (tables 𝓤 H 𝓜 𝓡 code.env .C) (tables 𝓤 H 𝓜 𝓡 code.env .Λ) #this code.function (code.unfolded 𝓤 H 𝓜 𝓡)
     (meets 𝓤 H (𝓖 .A) (givenOf 𝓤 H 𝓜 𝓖) (𝓜 .mem) (𝓡 .run) (tablesOf 𝓤 H 𝓜 (tables 𝓤 H 𝓜 𝓡 code.env))
-    (cited 𝓤 H (Line 𝓤 H (𝓖 .A) (𝓜 .mem) (𝓡 .run)) 𝓜 𝓡 code.env #line line-def.routine code.calls-replaying·in-place·line-in-place (line-thm.met 𝓤 H 𝓜 𝓖 𝓡)))''')
+    (cited 𝓤 H (Line 𝓤 H (𝓖 .A) (𝓜 .mem) (𝓡 .run)) 𝓜 𝓡 code.env #line line-def.routine code.calls-replaying·piece-loop·line-in-place (line-thm.met 𝓤 H 𝓜 𝓖 𝓡)))''')

@@ -116,8 +116,9 @@ OWNED="""  abbrev Rec : Lft → GName → Controller → Fml
   Piece = ShrSlice (named 2) κ-piece u8 .own piece-ref (s-piece ∷ [])"""
 def met(name,lives,vals,tells,wargs,goes,triples,known,cites):
     """what follows the walk of a function: that it meets its contract; triples(C) are those of its callees in C, known their names, cites their theorems"""
+    hyp=lambda C:triples(C)+" → " if triples(C) else ""
     return f"""module _ {G} (W : Given 𝓤 H A) {AM} where
-  walks : (C : Calls 𝓤 H) (Λ : Loops 𝓤 H) → FmC 𝓤 H (W .laws) C → {triples("C")} → Walks 𝓤 H A this.ended stayed (WpFn 𝓤 H C Λ code.function) (this.clauses 𝓤 H A at-mem run)
+  walks : (C : Calls 𝓤 H) (Λ : Loops 𝓤 H) → FmC 𝓤 H (W .laws) C → {hyp("C")}Walks 𝓤 H A this.ended stayed (WpFn 𝓤 H C Λ code.function) (this.clauses 𝓤 H A at-mem run)
   walks C Λ fm {known} = walked 𝓤 H A this.ended stayed (this.clauses 𝓤 H A at-mem run) (WpFn 𝓤 H C Λ code.function)
       (λ κs. {tup(vals)}) (λ κs. {tup(tells)})
       (λ κs qs bounds a g are. via 𝓤 _ (fst∗ 𝓤 _ (emp 𝓤)) (walk 𝓤 H A W at-mem run {" ".join(wargs)}))
@@ -125,8 +126,7 @@ def met(name,lives,vals,tells,wargs,goes,triples,known,cites):
   goes : AllGo 𝓤 H A W {lives} (this.signature .params) (this.ended .kept) stayed
   goes = {tup(goes)}
 
-meets : {G} → Given 𝓤 H A → {AM} (𝓣 : Tables 𝓤 H) → {triples("𝓣 .C")}
-    → Meets 𝓤 H A this.signature (WpFn 𝓤 H (𝓣 .C) (𝓣 .Λ) code.function) (this.spec 𝓤 H A at-mem run)
+meets : {G} → Given 𝓤 H A → {AM} (𝓣 : Tables 𝓤 H) → {hyp("𝓣 .C")}Meets 𝓤 H A this.signature (WpFn 𝓤 H (𝓣 .C) (𝓣 .Λ) code.function) (this.spec 𝓤 H A at-mem run)
 meets 𝓤 H A W at-mem run 𝓣 {known} = walk-meets 𝓤 H A this.ended stayed W (goes 𝓤 H A W at-mem run) (this.clauses 𝓤 H A at-mem run) (WpFn 𝓤 H (𝓣 .C) (𝓣 .Λ) code.function) (WpFn-mono 𝓤 H (W .laws) 𝓣 code.function)
     (walks 𝓤 H A W at-mem run (𝓣 .C) (𝓣 .Λ) (fmOf 𝓤 H (W .laws) 𝓣) {known})
 

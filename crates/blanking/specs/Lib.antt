@@ -1,4 +1,9 @@
+-- definitions
 pub mod Session
-pub mod SessionLaws
-pub mod Whole
+-- final statements
 pub mod Runs
+-- nothing to believe: laws, and the code's own definitions
+pub mod WholeLaws
+pub mod RunLaws
+pub mod SessionLaws
+pub mod Code

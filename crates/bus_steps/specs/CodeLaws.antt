@@ -4,7 +4,8 @@ use Prim.Native.Nat.{ℕ, _<_}
 use mathlib.Core.Bool.{Bool, true, false, _&&_, _||_, not}
 use mathlib.Core.List.{List, [], _∷_}
 use lib.Dec.{eqb, ltb, leb}
-use Rattle.masks.specs.Pick.{pick, pick-false, pick-keeps}
+use Rattle.masks.specs.Pick.{pick}
+use Rattle.masks.specs.PickLaws.{pick-false, pick-keeps}
 use Rattle.masks.specs.Bits.{bitOf, maskOf}
 use Rattle.masks.specs.Laws.{bit-mask, same-mask}
 use Rattle.contents.specs.Bytes.{Head}

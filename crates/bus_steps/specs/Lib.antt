@@ -1,3 +1,4 @@
+-- nothing to believe: laws, and the code's own definitions
 pub mod Code
 pub mod CodeLaws
-pub mod Marks
+pub mod CodeMarks

@@ -34,7 +34,7 @@ fn raise_risr(c: Control, b: u8) -> Control
     next
 }
 
-// Woken by the bus.
+// Woken by the bus, which sets WAKEIF; a waking write of $00 doesn't.
 pub(crate) fn woken(c: Control) -> Control
     ensures { λ r. ⌜ r ≡ woken c ⌝ }
 {
@@ -65,7 +65,7 @@ pub(crate) fn sync_events(f: Events, k: SyncKind) -> Events
     next
 }
 
-// SYNLIF, and no clear of it is remembered.
+// SYNLIF set. A clear that still waits is forgotten, or the next sync would clear the flag that was set now.
 fn lost_events(f: Events) -> Events
     ensures { λ r. ⌜ r ≡ lostEvents f ⌝ }
 {
@@ -76,7 +76,7 @@ fn lost_events(f: Events) -> Events
     next
 }
 
-// Synchronization lost.
+// Synchronization lost: SYNLIF, unsynchronized, nothing armed.
 fn lost(c: Control) -> Control
     ensures { λ r. ⌜ r ≡ faulted Lost c ⌝ }
 {

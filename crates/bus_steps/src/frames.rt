@@ -1,14 +1,15 @@
-// Frames. What becomes of a frame is decided first, as the verdict on it and its marks; the marks are then written into the control state
-// part by part. Where each outcome has a next state of its own, the compiler copies the whole state once more wherever two of them meet;
-// where the outcome is an enum, each match on it later is one more jump.
+// Frames. What becomes of a frame is decided first, as an outcome; its marks are then written into the control state part by part.
+// Where each outcome has a next state of its own, the compiler copies the whole state once more wherever two of them meet; where the
+// outcome is an enum, each match on it later is one more jump.
 ghost use mathlib.Core.Path.{_≡_};
-ghost use Prim.Native.Nat.{ℕ, max, _<_};
+ghost use Prim.Native.Nat.{ℕ};
 ghost use Rattle.rules.specs.Rules.{wakes};
-ghost use Rattle.rules.specs.Bus.{toBuffer, fifoTakes, withEntry, toFifo, raiseLast, judged};
+ghost use Rattle.rules.specs.Bus.{toBuffer, fifoTakes, toFifo, raiseLast, judged};
 ghost use Rattle.bus_steps.specs.Code.{rulingOf};
-ghost use Rattle.bus_steps.specs.Marks.{decided, risen, entered, base, marked, ruledBy};
+ghost use Rattle.bus_steps.specs.CodeMarks.{unmarked, risen, entered, marked, ruledBy};
 use kinds::is_locked;
 use kinds::place_after;
+use masks::NONE;
 use modes::wake;
 use rules::Answer;
 use rules::Control;
@@ -18,59 +19,36 @@ use rules::bits::ERRIF;
 use rules::bits::OVRNIF;
 use rules::bits::WAKEIF;
 
-// What a frame marks: whether the last identifier rises to the frame's, whose IFLG is set, which flags of $07 are set,
-// whether the FIFO has one more entry, and whether the module wakes.
-struct Marks {
-    raises: bool,
-    iflg: u16,
-    gisr: u8,
-    queues: bool,
-    wakes: bool,
-}
-
-// What becomes of a frame: the verdict on it, and what it marks.
+// What becomes of a frame: the verdict on it, and its marks in the control state.
 pub(crate) struct Outcome {
     pub(crate) verdict: Verdict,
-    marks: Marks,
-}
-
-fn marking(raises: bool, iflg: u16, gisr: u8, queues: bool, wakes: bool) -> Marks
-    ensures { λ r. ⌜ r ≡ record { raises = raises; iflg = iflg; gisr = gisr; queues = queues; wakes = wakes } ⌝ }
-{
-    Marks {
-        raises,
-        iflg,
-        gisr,
-        queues,
-        wakes,
-    }
-}
-
-// An outcome, its marks one by one.
-fn decided(
-    verdict: Verdict,
+    // the last identifier becomes the larger of itself and the frame's
     raises: bool,
+    // the buffers whose IFLG is set
     iflg: u16,
+    // the flags of $07 that are set
     gisr: u8,
+    // the FIFO has one more entry
     queues: bool,
+    // the module wakes
     wakes: bool,
-) -> Outcome
-    ensures { λ r. ⌜ r ≡ decided verdict raises iflg gisr queues wakes ⌝ }
+}
+
+// A verdict that marks nothing.
+fn unmarked(verdict: Verdict) -> Outcome
+    ensures { λ r. ⌜ r ≡ unmarked verdict ⌝ }
 {
     Outcome {
         verdict: verdict,
-        marks: marking(raises, iflg, gisr, queues, wakes),
+        raises: false,
+        iflg: 0,
+        gisr: 0,
+        queues: false,
+        wakes: false,
     }
 }
 
-// The larger of two identifiers.
-fn larger(a: u8, b: u8) -> u8
-    ensures { λ r. ⌜ r ≡ max a b ⌝ }
-{
-    if a < b { b } else { a }
-}
-
-// FSIZ is not 0, and the filters let the identifier in.
+// The FIFO takes identifier i: FSIZ is not 0, the acceptance filter matches it and the rejection filter doesn't.
 fn fifo_takes(c: Control, i: u8) -> bool
     ensures { λ r. ⌜ r ≡ fifoTakes c i ⌝ }
 {
@@ -84,71 +62,68 @@ fn to_buffer(c: Control, n: u8) -> Outcome
     ensures { λ r. ⌜ ((i : ℕ) → ruledBy c i r ≡ rulingOf (toBuffer (raiseLast c i) n)) ⌝ }
 {
     if is_locked(c, n) {
-        return decided(Verdict::Say(Answer::HeldOff(n)), true, 0, 0, false, false);
+        let mut held = unmarked(Verdict::Say(Answer::HeldOff(n)));
+        held.raises = true;
+        return held;
     }
-    decided(
-        Verdict::Store(n, Answer::Stored(n)),
-        true,
-        masks::one(n),
-        0,
-        false,
-        false,
-    )
+    let mut stored = unmarked(Verdict::Store(n, Answer::Stored(n)));
+    stored.raises = true;
+    stored.iflg = masks::one(n);
+    stored
 }
 
-// A frame with no dedicated buffer.
+// A frame that no dedicated receive buffer carries.
 fn to_fifo(c: Control, i: u8) -> Outcome
     ensures { λ r. ⌜ ruledBy c i r ≡ rulingOf (toFifo (raiseLast c i) i) ⌝ }
 {
     if !fifo_takes(c, i) {
-        return decided(Verdict::Say(Answer::Unmatched), true, 0, 0, false, false);
+        let mut unmatched = unmarked(Verdict::Say(Answer::Unmatched));
+        unmatched.raises = true;
+        return unmatched;
     }
     if c.config.fsiz <= c.fifo.count {
-        return decided(Verdict::Say(Answer::Overrun), true, 0, OVRNIF, false, false);
+        let mut overrun = unmarked(Verdict::Say(Answer::Overrun));
+        overrun.raises = true;
+        overrun.gisr = OVRNIF;
+        return overrun;
     }
     let n = c.fifo.next;
-    decided(
-        Verdict::Store(n, Answer::Queued(n)),
-        true,
-        0,
-        0,
-        true,
-        false,
-    )
+    let mut queued = unmarked(Verdict::Store(n, Answer::Queued(n)));
+    queued.raises = true;
+    queued.queues = true;
+    queued
 }
 
-// A frame that is awaited or not.
+// A frame in normal operation, awake: ignored if unsynchronized, 'badframe', else to its buffer or the FIFO.
 fn judged(c: Control, good: bool, i: u8, n: u8) -> Outcome
     ensures { λ r. ⌜ ruledBy c i r ≡ rulingOf (judged c good i n) ⌝ }
 {
     if !c.mode.synced {
-        return decided(Verdict::Say(Answer::Ignored), false, 0, 0, false, false);
+        return unmarked(Verdict::Say(Answer::Ignored));
     }
     if !good || i == 0 {
-        return decided(
-            Verdict::Say(Answer::BadFrame),
-            false,
-            0,
-            ERRIF,
-            false,
-            false,
-        );
+        let mut bad = unmarked(Verdict::Say(Answer::BadFrame));
+        bad.gisr = ERRIF;
+        return bad;
     }
-    if n < 16 {
+    if n < NONE {
         return to_buffer(c, n);
     }
     to_fifo(c, i)
 }
 
-// What becomes of a frame with identifier i, whose buffer is n, 16 for none.
+// A frame with identifier i, whose dedicated receive buffer is n, NONE if there is none.
 pub(crate) fn outcome_of(c: Control, good: bool, i: u8, n: u8) -> Outcome
     ensures { λ r. ⌜ ruledBy c i r ≡ rulingOf (wakes c (judged c good i n)) ⌝ }
 {
     if c.mode.init {
-        return decided(Verdict::Say(Answer::Ignored), false, 0, 0, false, false);
+        return unmarked(Verdict::Say(Answer::Ignored));
     }
     if c.mode.slpak {
-        return decided(Verdict::Say(Answer::Woke), false, 0, WAKEIF, false, true);
+        let mut woke = unmarked(Verdict::Say(Answer::Woke));
+        woke.gisr = WAKEIF;
+        woke.wakes = true;
+        return woke;
     }
     judged(c, good, i, n)
 }
@@ -157,55 +132,38 @@ pub(crate) fn outcome_of(c: Control, good: bool, i: u8, n: u8) -> Outcome
 fn risen(last: u8, raises: bool, i: u8) -> u8
     ensures { λ r. ⌜ r ≡ risen last raises i ⌝ }
 {
-    if raises { larger(last, i) } else { last }
+    if raises && last < i { i } else { last }
 }
 
-// The FIFO, which has room, with one more entry.
-fn with_entry(c: Control) -> Fifo
-    requires { ⌜ c .fifo .count < c .config .fsiz ⌝ }
-    ensures { λ r. ⌜ r ≡ withEntry c ⌝ }
-{
-    let mut f = c.fifo;
-    let next = place_after(c.config.fsiz, c.fifo.next);
-    let count = c.fifo.count + 1;
-    f.next = next;
-    f.count = count;
-    f
-}
-
-// The FIFO with one more entry, if it has room.
+// The FIFO after a frame. Where the frame queues there is room (`to_fifo`); asked again here, so that the function is total.
 fn entered(c: Control, queues: bool) -> Fifo
     ensures { λ r. ⌜ r ≡ entered c queues ⌝ }
 {
+    let mut f = c.fifo;
     if queues && c.fifo.count < c.config.fsiz {
-        return with_entry(c);
+        let next = place_after(c.config.fsiz, c.fifo.next);
+        let count = c.fifo.count + 1;
+        f.next = next;
+        f.count = count;
+        return f;
     }
-    c.fifo
+    f
 }
 
-// The control state with its marks, but for waking.
-fn with_marks(c: Control, m: Marks, i: u8) -> Control
-    ensures { λ r. ⌜ r ≡ base c m i ⌝ }
+// The control state after a frame with identifier i and outcome o.
+pub(crate) fn marked(c: Control, o: Outcome, i: u8) -> Control
+    ensures { λ r. ⌜ r ≡ marked c o i ⌝ }
 {
-    let last = risen(c.mode.last, m.raises, i);
-    let gisr = c.events.gisr | m.gisr;
-    let iflg = c.buffers.iflg | m.iflg;
-    let fifo = entered(c, m.queues);
+    let last = risen(c.mode.last, o.raises, i);
+    let gisr = c.events.gisr | o.gisr;
+    let iflg = c.buffers.iflg | o.iflg;
+    let fifo = entered(c, o.queues);
     let mut next = c;
     next.mode.last = last;
     next.events.gisr = gisr;
     next.buffers.iflg = iflg;
     next.fifo = fifo;
-    next
-}
-
-// The control state after a frame with identifier i.
-pub(crate) fn marked(c: Control, o: Outcome, i: u8) -> Control
-    ensures { λ r. ⌜ r ≡ marked c (o .marks) i ⌝ }
-{
-    let m = o.marks;
-    let next = with_marks(c, m, i);
-    if m.wakes {
+    if o.wakes {
         return wake(next);
     }
     next

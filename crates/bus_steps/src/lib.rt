@@ -25,7 +25,7 @@ use rules::Ruling;
 use rules::SyncKind;
 use rules::Verdict;
 
-// An answer alone.
+// The next state with an answer alone: no frame is stored or sent.
 pub(crate) fn ruling(next: Control, answer: Answer) -> Ruling
     ensures { λ r. ⌜ r ≡ rulingOf (plain next answer) ⌝ }
 {
@@ -35,7 +35,7 @@ pub(crate) fn ruling(next: Control, answer: Answer) -> Ruling
     }
 }
 
-// A frame with identifier i, whose buffer is n, 16 for none.
+// A frame with identifier i, whose dedicated receive buffer is n, NONE if there is none.
 pub fn on_frame(c: Control, good: bool, i: u8, n: u8) -> Ruling
     ensures { λ r. ⌜ r ≡ rulingOf (wakes c (judged c good i n)) ⌝ }
 {
@@ -47,6 +47,7 @@ pub fn on_frame(c: Control, good: bool, i: u8, n: u8) -> Ruling
     }
 }
 
+// Slot i. Its buffer is n, the highest armed one that carries i, NONE if there is none.
 pub fn on_slot(c: Control, i: u8, n: u8) -> Ruling
     ensures { λ r. ⌜ r ≡ rulingOf (sleepsOn c (slotFor c i n)) ⌝ }
 {
@@ -59,7 +60,7 @@ pub fn on_slot(c: Control, i: u8, n: u8) -> Ruling
     slot_for(c, i, n)
 }
 
-// A sync, m being the full transmit buffers with an identifier.
+// A sync. It arms of m, the full transmit buffers with an identifier, those that are not locked.
 pub fn on_sync(c: Control, k: SyncKind, m: u16) -> Ruling
     ensures { λ r. ⌜ r ≡ rulingOf (wakes c (plain (syncedOf k c m) Ok)) ⌝ }
 {
@@ -72,7 +73,7 @@ pub fn on_sync(c: Control, k: SyncKind, m: u16) -> Ruling
     ruling(synced(c, k, m), Answer::Ok)
 }
 
-// A sync due.
+// A sync is due: a master emits the pulse and acts as if it had received it, a slave ignores it.
 pub fn on_due(c: Control, m: u16) -> Ruling
     ensures { λ r. ⌜ r ≡ rulingOf (sleepsOn c (dueOf c m)) ⌝ }
 {
@@ -101,6 +102,7 @@ pub fn on_fault(c: Control, k: Fault) -> Ruling
     ruling(faulted(c, k), Answer::Ok)
 }
 
+// The alarm timeout.
 pub fn on_timeout(c: Control) -> Ruling
     ensures { λ r. ⌜ r ≡ rulingOf (sleepsOn c (plain (timedOut c) Ok)) ⌝ }
 {

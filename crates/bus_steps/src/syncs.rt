@@ -8,7 +8,7 @@ use kinds::locked_mask;
 use rules::Control;
 use rules::SyncKind;
 
-// What a sync arms of the buffers m, the full transmit buffers with an identifier.
+// What a sync arms of the buffers m: the full transmit buffers that are not locked.
 fn arming(c: Control, m: u16) -> u16
     ensures { λ r. ⌜ r ≡ maskOf (armsOf c m) ⌝ }
 {
@@ -16,7 +16,7 @@ fn arming(c: Control, m: u16) -> u16
     b.cfg & !b.iflg & !locked_mask(c) & m
 }
 
-// A sync, m being the full transmit buffers with an identifier.
+// A sync: synchronized, a new cycle, its buffers armed.
 pub(crate) fn synced(c: Control, k: SyncKind, m: u16) -> Control
     ensures { λ r. ⌜ r ≡ syncedOf k c m ⌝ }
 {
@@ -42,7 +42,7 @@ pub(crate) fn due_kind(c: Control) -> SyncKind
     }
 }
 
-// ALARM cleared.
+// The alarm timeout clears ALARM.
 pub(crate) fn timed_out(c: Control) -> Control
     ensures { λ r. ⌜ r ≡ timedOut c ⌝ }
 {

@@ -3,8 +3,8 @@
 use controller::Call;
 use controller::Controller;
 use controller::Done;
-use controller::FrameBytes;
 use libc::STDOUT_FILENO;
+use lines::FrameBytes;
 use lines::Line;
 use lines::Parsed;
 use pieces::Held;
@@ -30,7 +30,7 @@ fn fresh() -> Session {
     }
 }
 
-pub fn start() -> Bench {
+pub(crate) fn start() -> Bench {
     Bench {
         session: fresh(),
         held: pieces::none(),
@@ -245,7 +245,7 @@ fn byte(t: Bench, b: u8) -> Bench {
 }
 
 // The bench after some bytes of the input.
-pub fn fed(t: Bench, piece: &[u8]) -> Bench {
+pub(crate) fn fed(t: Bench, piece: &[u8]) -> Bench {
     let mut next = t;
     for at in 0..piece.len() {
         next = byte(next, piece[at]);

@@ -1,8 +1,6 @@
 -- A buffer's fourteen bytes: identifier, length, data 0 to 11 (document 01, 'What is emulated', 'Bus steps').
 use Prim.Native.Nat.{ℕ, zero, suc, _+_, _%_, min}
-use mathlib.Core.Bool.{Bool}
 use mathlib.Core.List.{List, [], _∷_, _++_}
-use lib.Dec.{eqb}
 use lib.ListN.{getD, set, take, drop, length, replicate}
 use Rattle.contents.specs.declared.Contents.{Contents}
 
@@ -42,10 +40,6 @@ withData b j v = record { bytes = set (b .bytes) (suc (suc j)) v }
 -- the smaller of 12 and the length byte's low four bits
 abbrev pub cut : ℕ → ℕ
 cut l = min 12 (l % 16)
-
--- f is as long as its length byte says: identifier, length byte, and that many data bytes, cut
-abbrev pub wellSized : List ℕ → Bool
-wellSized f = eqb (length f) (2 + cut (getD f 1 0))
 
 -- how many data bytes a length byte l takes from the data part d: `cut l`, where d has them
 abbrev pub taken : ℕ → List ℕ → ℕ

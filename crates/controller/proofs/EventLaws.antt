@@ -8,10 +8,11 @@ use borrow.Author.Tests.{lt-ltb, le-ltb, ltb-true, ltb-false, eqb-true, not-fals
 use lib.Dec.{ltb}
 use lib.ListN.{getD, set, drop, length, replicate, List·getD-eq-default}
 use lib.Seq.{set-out}
-use Rattle.masks.specs.Pick.{pick-true, pick-false, by-test}
+use Rattle.masks.specs.PickLaws.{pick-true, pick-false, by-test}
 use Rattle.contents.specs.declared.Contents.{Contents}
-use Rattle.contents.specs.Bytes.{noContents, cut, wellSized, storeFrame, bytesFrom, frameOf, fillRoom}
-use Rattle.sending.specs.Room.{roomAfter, room-filled}
+use Rattle.contents.specs.Bytes.{noContents, cut, storeFrame, bytesFrom, frameOf, fillRoom}
+use Rattle.contents.specs.Code.{wellSized}
+use Rattle.sending.specs.CodeRoom.{roomAfter, room-filled}
 use Rattle.rules.specs.Refusals.{refuses11}
 use Rattle.controller.specs.Carry.{rowAt}
 use Rattle.rules.specs.declared.Verdict.{Verdict}

@@ -2,42 +2,38 @@
 use Prim.Native.Nat.{ℕ, _≤_, _<_}
 use mathlib.Core.Path.{_≡_, refl, sym, ap, _∙_}
 use mathlib.Core.List.{List, [], _∷_}
+use mathlib.Core.Bool.{not}
 use native.Mathlib.Omega.{arith}
 use borrow.Author.Tests.{ltb-false}
-use lib.Dec.{ltb}
+use lib.Dec.{T, ltb}
 use lib.ListN.{length, getD, set, length-map, List·getD-eq-default}
 use lib.Seq.{set-out}
 use types.Run.{OneOf, miss}
-use mir.Val.{Val}
+use mir.Val.{Val, hasKey}
 use denote.Shadow.{shadow}
 use denote.Struct.Declared.{row}
 use denote.Enum.Declared.{tagOf}
-use Rattle.masks.specs.Pick.{pick-true, by-test}
+use Rattle.masks.specs.PickLaws.{pick-true, by-test}
 use Rattle.contents.proofs.Contents.{the-type as the-contents}
 use Rattle.contents.specs.declared.Contents.{Contents}
 use Rattle.contents.specs.Bytes.{noContents}
 use Rattle.rules.specs.declared.Control.{Control}
 use Rattle.rules.proofs.Register.{the-type as the-register}
 use Rattle.rules.specs.declared.Register.{Register}
+use Rattle.rules.specs.Registers.{Region, sendPlace, receivePlace, fifoPlace, elsewhere, regionOf}
 use Rattle.rules.specs.declared.Register.the-variants.{Mcr, Fsizr, Tcr1, Tcr2, Tcr3, Risr, Gisr, Rier, Gier, Rivec, Tivec, Fidac, Fidmr, Mvr, Pctlbf, Buflock, Fidrj, Fidrmr, TransmitWindow, ReceiveWindow, FifoWindow, Bufctl, Reserved}
 use Rattle.rules.specs.Reads.{valueOf}
 use Rattle.rules.specs.Refusals.{refuses1, firstOf, writeRefusal}
 use Rattle.controller.specs.declared.Controller.{Controller}
-use Rattle.controller.specs.declared.FrameBytes.{FrameBytes}
 use Rattle.controller.specs.Carry.{rowAt}
-use Rattle.controller.specs.Code.{holderOf, windowByte, registerValue, writePlace, writeWindow, writtenRows, rowBytes}
+use Rattle.controller.specs.Code.{holderIn, valueIn, rowsIn, holderOf, windowByte, registerValue, writePlace, writeWindow, writtenRows, rowBytes}
 use Rattle.controller.proofs.EventLaws.{bytes-in}
 use Rattle.controller.proofs.Controller.{the-type as the-controller}
-use Rattle.controller.proofs.FrameBytes.{the-type as the-frame}
 
 -- ---- a controller that the code holds has sixteen rows
 
 pub sixteen-rows : (c : Controller) (vs : List Val) → shadow (row the-controller .own c vs) → length (c .rows) ≡ 16
 sixteen-rows c vs good = sym (length-map (c .rows) (the-contents .to)) ∙ good .1 .1 .1 .0 .1 .0 .1
-
--- a frame by value has thirty bytes
-pub thirty-bytes : (f : FrameBytes) (vs : List Val) → shadow (row the-frame .own f vs) → length (f .bytes) ≡ 30
-thirty-bytes f vs good = sym (length-map (f .bytes) _) ∙ good .1 .1 .0 .1 .0 .1
 
 -- ---- a window with no holder
 
@@ -69,84 +65,76 @@ allButWindows = 0 ∷ 1 ∷ 2 ∷ 3 ∷ 4 ∷ 5 ∷ 6 ∷ 7 ∷ 8 ∷ 9 ∷ 10 �
 abbrev allButWritable : List ℕ
 allButWritable = 0 ∷ 1 ∷ 2 ∷ 3 ∷ 4 ∷ 5 ∷ 6 ∷ 7 ∷ 8 ∷ 9 ∷ 10 ∷ 11 ∷ 12 ∷ 13 ∷ 14 ∷ 15 ∷ 16 ∷ 17 ∷ 20 ∷ 21 ∷ 22 ∷ []
 
+-- a place of a window is declared where its window is
+tagged : Region → ℕ → Type 0
+tagged (sendPlace p) t = t ≡ 18
+tagged (receivePlace p) t = t ≡ 19
+tagged (fifoPlace p) t = t ≡ 20
+tagged elsewhere t = Unit
+
+tag-region : (r : Register) → tagged (regionOf r) (tagOf the-register r)
+unfolding tagged
+tag-region Mcr = tt
+tag-region Fsizr = tt
+tag-region Tcr1 = tt
+tag-region Tcr2 = tt
+tag-region Tcr3 = tt
+tag-region Risr = tt
+tag-region Gisr = tt
+tag-region Rier = tt
+tag-region Gier = tt
+tag-region Rivec = tt
+tag-region Tivec = tt
+tag-region Fidac = tt
+tag-region Fidmr = tt
+tag-region Mvr = tt
+tag-region Pctlbf = tt
+tag-region Buflock = tt
+tag-region Fidrj = tt
+tag-region Fidrmr = tt
+tag-region (TransmitWindow p) = refl
+tag-region (ReceiveWindow p) = refl
+tag-region (FifoWindow p) = refl
+tag-region (Bufctl n) = tt
+tag-region Reserved = tt
+
+-- it is not among what is left of the variants
+left-out : {A : Type 0} (ks : List ℕ) (t k : ℕ) → T (not (hasKey ks k)) → t ≡ k → OneOf ks t → A
+left-out ks t k m e h = absurd (miss ks k m (rw (sym e) h))
+
+region-holder : (c : Control) (g : Region) (t : ℕ) → tagged g t → OneOf allButWindows t → 16 ≡ holderIn c g
+unfolding tagged
+region-holder c (sendPlace p) t e h = left-out allButWindows t 18 tt e h
+region-holder c (receivePlace p) t e h = left-out allButWindows t 19 tt e h
+region-holder c (fifoPlace p) t e h = left-out allButWindows t 20 tt e h
+region-holder c elsewhere t e h = refl
+
 pub no-holder : (c : Control) (r : Register) → OneOf allButWindows (tagOf the-register r) → 16 ≡ holderOf c r
 unfolding holderOf
-no-holder c Mcr h = refl
-no-holder c Fsizr h = refl
-no-holder c Tcr1 h = refl
-no-holder c Tcr2 h = refl
-no-holder c Tcr3 h = refl
-no-holder c Risr h = refl
-no-holder c Gisr h = refl
-no-holder c Rier h = refl
-no-holder c Gier h = refl
-no-holder c Rivec h = refl
-no-holder c Tivec h = refl
-no-holder c Fidac h = refl
-no-holder c Fidmr h = refl
-no-holder c Mvr h = refl
-no-holder c Pctlbf h = refl
-no-holder c Buflock h = refl
-no-holder c Fidrj h = refl
-no-holder c Fidrmr h = refl
-no-holder c (TransmitWindow p) h = absurd (miss allButWindows 18 tt h)
-no-holder c (ReceiveWindow p) h = absurd (miss allButWindows 19 tt h)
-no-holder c (FifoWindow p) h = absurd (miss allButWindows 20 tt h)
-no-holder c (Bufctl n) h = refl
-no-holder c Reserved h = refl
+no-holder c r h = region-holder c (regionOf r) _ (tag-region r) h
 
 module _ (c : Controller) where
+  region-value : (g : Region) (v t : ℕ) → tagged g t → OneOf allButWindows t → v ≡ valueIn c g v
+  unfolding tagged
+  region-value (sendPlace p) v t e h = left-out allButWindows t 18 tt e h
+  region-value (receivePlace p) v t e h = left-out allButWindows t 19 tt e h
+  region-value (fifoPlace p) v t e h = left-out allButWindows t 20 tt e h
+  region-value elsewhere v t e h = refl
+
   pub other-value : (r : Register) → OneOf allButWindows (tagOf the-register r) → valueOf (c .control) r ≡ registerValue c r
   unfolding registerValue
-  other-value Mcr h = refl
-  other-value Fsizr h = refl
-  other-value Tcr1 h = refl
-  other-value Tcr2 h = refl
-  other-value Tcr3 h = refl
-  other-value Risr h = refl
-  other-value Gisr h = refl
-  other-value Rier h = refl
-  other-value Gier h = refl
-  other-value Rivec h = refl
-  other-value Tivec h = refl
-  other-value Fidac h = refl
-  other-value Fidmr h = refl
-  other-value Mvr h = refl
-  other-value Pctlbf h = refl
-  other-value Buflock h = refl
-  other-value Fidrj h = refl
-  other-value Fidrmr h = refl
-  other-value (TransmitWindow p) h = absurd (miss allButWindows 18 tt h)
-  other-value (ReceiveWindow p) h = absurd (miss allButWindows 19 tt h)
-  other-value (FifoWindow p) h = absurd (miss allButWindows 20 tt h)
-  other-value (Bufctl n) h = refl
-  other-value Reserved h = refl
+  other-value r h = region-value (regionOf r) (valueOf (c .control) r) _ (tag-region r) h
+
+  region-rows : (g : Region) (v t : ℕ) → tagged g t → OneOf allButWritable t → c .rows ≡ rowsIn c g v
+  unfolding tagged
+  region-rows (sendPlace p) v t e h = left-out allButWritable t 18 tt e h
+  region-rows (receivePlace p) v t e h = left-out allButWritable t 19 tt e h
+  region-rows (fifoPlace p) v t e h = refl
+  region-rows elsewhere v t e h = refl
 
   pub other-rows : (r : Register) (v : ℕ) → OneOf allButWritable (tagOf the-register r) → c .rows ≡ writtenRows c r v
   unfolding writtenRows
-  other-rows Mcr v h = refl
-  other-rows Fsizr v h = refl
-  other-rows Tcr1 v h = refl
-  other-rows Tcr2 v h = refl
-  other-rows Tcr3 v h = refl
-  other-rows Risr v h = refl
-  other-rows Gisr v h = refl
-  other-rows Rier v h = refl
-  other-rows Gier v h = refl
-  other-rows Rivec v h = refl
-  other-rows Tivec v h = refl
-  other-rows Fidac v h = refl
-  other-rows Fidmr v h = refl
-  other-rows Mvr v h = refl
-  other-rows Pctlbf v h = refl
-  other-rows Buflock v h = refl
-  other-rows Fidrj v h = refl
-  other-rows Fidrmr v h = refl
-  other-rows (TransmitWindow p) v h = absurd (miss allButWritable 18 tt h)
-  other-rows (ReceiveWindow p) v h = absurd (miss allButWritable 19 tt h)
-  other-rows (FifoWindow p) v h = refl
-  other-rows (Bufctl n) v h = refl
-  other-rows Reserved v h = refl
+  other-rows r v h = region-rows (regionOf r) v _ (tag-region r) h
 
 -- ---- refusal 1
 

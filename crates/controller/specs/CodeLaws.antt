@@ -7,29 +7,29 @@ use native.Mathlib.Omega.{arith}
 use borrow.Author.Tests.{lt-ltb, le-ltb, ne-eqb, eq-eqb, eqb-true, eqb-false, ltb-true, ltb-false}
 use lib.ListN.{getD, set, drop, length, replicate, List·getD-eq-default}
 use lib.Dec.{eqb, ltb, leb}
-use Rattle.masks.specs.Pick.{pick, pick-true, pick-false, pick-keeps, by-test}
+use Rattle.masks.specs.Pick.{pick}
+use Rattle.masks.specs.PickLaws.{pick-true, pick-false, pick-keeps, by-test}
 use Rattle.masks.specs.Bits.{maskOf, someOf, highest}
-use Rattle.masks.specs.Search.{some-false}
+use Rattle.masks.specs.SearchLaws.{some-false}
 use Rattle.contents.specs.declared.Contents.{Contents}
 use Rattle.contents.specs.Bytes.{Head, headOf, blank, dataAt, noContents, fillRoom, frameOf}
-use Rattle.sending.specs.Room.{fill-none}
+use Rattle.sending.specs.CodeRoom.{fill-none}
 use Rattle.rules.specs.declared.SyncKind.{SyncKind}
 use Rattle.rules.specs.declared.Fault.{Fault}
 use Rattle.rules.specs.declared.Fault.the-variants.{Early, Lost, Illegal, Mismatch}
 use Rattle.rules.specs.declared.Answer.{Answer}
 use Rattle.rules.specs.declared.Answer.the-variants.{Ok, Value, Refused, Ignored, Woke}
 use Rattle.rules.specs.declared.Register.{Register}
-use Rattle.rules.specs.declared.Register.the-variants.{Mcr, Fsizr, Tcr1, Tcr2, Tcr3, Risr, Gisr, Rier, Gier, Rivec, Tivec, Fidac, Fidmr, Mvr, Pctlbf, Buflock, Fidrj, Fidrmr, TransmitWindow, ReceiveWindow, FifoWindow, Bufctl, Reserved}
 use Rattle.rules.specs.declared.Control.{Control}
 use Rattle.rules.specs.declared.Ruling.{Ruling}
 use Rattle.rules.specs.declared.Verdict.{Verdict}
 use Rattle.rules.specs.declared.Verdict.the-variants.{Say, Store, Send}
-use Rattle.rules.specs.Registers.{lowMap, registerAt}
+use Rattle.rules.specs.Registers.{Region, sendPlace, receivePlace, fifoPlace, elsewhere, regionOf, lowMap, registerAt}
 use Rattle.rules.specs.Kinds.{fifoHolder}
 use Rattle.rules.specs.Steps.{Step, reset, read, write, sync, syncDue, slot, frame, fault, timeout, dataRegister, hide, frameIn, roomIn}
 use Rattle.rules.specs.Plan.{headAt, Move, Reply, say, show, send, Plan, plain}
-use Rattle.rules.specs.Reads.{valueOf, windowReply, readReply}
-use Rattle.rules.specs.Writes.{written, windowMoves, writeMoves}
+use Rattle.rules.specs.Reads.{valueOf, windowReply, replyIn, readReply}
+use Rattle.rules.specs.Writes.{written, windowMoves, movesIn, writeMoves}
 use Rattle.rules.specs.Refusals.{refuses1, refuses11, refuses12, firstOf, readRefusal, writeRefusal, refusal}
 use Rattle.rules.specs.Modes.{wake}
 use Rattle.rules.specs.Bus.{woken, dueKind, lookup, offers, judged, received, slotFor, slotted, synced, dueSync, timedOut, faulted}
@@ -42,8 +42,9 @@ use Rattle.controller.specs.declared.Done.{Done}
 use Rattle.controller.specs.declared.Change.{Change}
 use Rattle.controller.specs.Carry.{heads, rowAt, moveAll, answerOf, Outcome, carry, resetState}
 use Rattle.controller.specs.Session.{stepOf}
-use Rattle.controller.specs.View.{head-at}
-use Rattle.controller.specs.Code.{doneOf, answered, placed, changed, rowOf, saidBy, keptFrom, roomBy, ruled, windowByte, registerValue, writePlace, writeWindow, writtenRows}
+use Rattle.controller.specs.ViewLaws.{head-at}
+use Rattle.controller.specs.Calls.{doneOf}
+use Rattle.controller.specs.Code.{answered, saying, placing, placed, changed, rowIndex, saidBy, keptFrom, roomBy, ruled, windowByte, valueIn, registerValue, writePlace, writeWindow, rowsIn, writtenRows}
 
 not-false : (t : Bool) → not t ≡ false → t ≡ true
 not-false true e = refl
@@ -57,27 +58,13 @@ step-plain c e = ap (carry e (c .rows)) (decide-hide (c .control) (heads (c .row
 -- ---- a change carried out
 
 module _ (rows : List Contents) (n : ℕ) (bytes : List ℕ) where
-  pub placed-none : n ≡ 16 → placed rows n bytes ≡ rows
-  unfolding placed pick
-  placed-none e = ap (λ (k : ℕ). placed rows k bytes) e
+  pub placed-none : 16 ≤ n → placed rows n bytes ≡ rows
+  unfolding placed
+  placed-none h = pick-false (ltb n 16) _ _ (le-ltb n 16 h)
 
   pub placed-one : n < 16 → placed rows n bytes ≡ set rows n (record { bytes = bytes })
   unfolding placed
   placed-one h = pick-true (ltb n 16) _ _ (lt-ltb n 16 h)
-
-  pub placed-all : 16 < n → placed rows n bytes ≡ replicate 16 blank
-  unfolding placed
-  placed-all h =
-      pick-false (ltb n 16) _ _ (le-ltb n 16 (omega arith))
-      ∙ pick-false (eqb n 16) _ _ (ne-eqb n 16 (λ e. omega arith))
-
--- the control state d alone, with the answer a
-abbrev pub saying : Control → Answer → Change
-saying d a = record { control = d; place = 16; bytes = replicate 14 0; answer = a }
-
--- the control state d and the bytes b of buffer n, with the answer a
-abbrev pub placing : Control → ℕ → List ℕ → Answer → Change
-placing d n b a = record { control = d; place = n; bytes = b; answer = a }
 
 module _ (c : Controller) (x : Change) (d : Control) (a : Answer) where
   -- the record with these bytes, and the answer
@@ -85,18 +72,15 @@ module _ (c : Controller) (x : Change) (d : Control) (a : Answer) where
   given rows = record { next = record { control = d; rows = rows }; answer = a }
 
   pub says-only : x ≡ saying d a → changed c x ≡ given (c .rows)
-  says-only e = ap (changed c) e ∙ ap given (placed-none (c .rows) 16 (replicate 14 0) refl)
+  says-only e = ap (changed c) e ∙ ap given (placed-none (c .rows) 16 (replicate 14 0) (omega arith))
 
   pub places-one : (n : ℕ) (b : List ℕ) → x ≡ placing d n b a → n < 16 → changed c x ≡ given (set (c .rows) n (record { bytes = b }))
   places-one n b e h = ap (changed c) e ∙ ap given (placed-one (c .rows) n b h)
 
-  pub wipes-all : (b : List ℕ) → x ≡ placing d 17 b a → changed c x ≡ given (replicate 16 blank)
-  wipes-all b e = ap (changed c) e ∙ ap given (placed-all (c .rows) 17 b (omega arith))
-
 -- ---- rulings
 
--- the row to look at for a verdict is one of the sixteen
-pub row-within : (v : Verdict) → rowOf v < 16
+-- it is one of the sixteen
+pub row-within : (v : Verdict) → rowIndex v < 16
 row-within (Say a) = omega arith
 row-within (Store n a) = omega arith
 row-within (Send n) = omega arith
@@ -242,37 +226,21 @@ module _ (c : Controller) where
 -- ---- register reads
 
 -- the places of the windows that are data registers
+dataIn : Region → Bool
+dataIn (sendPlace p) = not (ltb p 2)
+dataIn (receivePlace p) = not (ltb p 2)
+dataIn (fifoPlace p) = not (ltb p 2)
+dataIn elsewhere = false
+
 dataPlace : Register → Bool
-dataPlace Mcr = false
-dataPlace Fsizr = false
-dataPlace Tcr1 = false
-dataPlace Tcr2 = false
-dataPlace Tcr3 = false
-dataPlace Risr = false
-dataPlace Gisr = false
-dataPlace Rier = false
-dataPlace Gier = false
-dataPlace Rivec = false
-dataPlace Tivec = false
-dataPlace Fidac = false
-dataPlace Fidmr = false
-dataPlace Mvr = false
-dataPlace Pctlbf = false
-dataPlace Buflock = false
-dataPlace Fidrj = false
-dataPlace Fidrmr = false
-dataPlace (TransmitWindow p) = not (ltb p 2)
-dataPlace (ReceiveWindow p) = not (ltb p 2)
-dataPlace (FifoWindow p) = not (ltb p 2)
-dataPlace (Bufctl n) = false
-dataPlace Reserved = false
+dataPlace r = dataIn (regionOf r)
 
 mixed : ℕ → Bool
 mixed a = dataPlace (registerAt a) && not (dataRegister a)
 
 -- computed over the whole map
 none-mixed : someOf mixed 0x60 ≡ false
-unfolding someOf mixed dataPlace dataRegister registerAt lowMap pick
+unfolding someOf mixed dataPlace dataIn dataRegister registerAt lowMap pick
 none-mixed = refl
 
 data-place : (a : ℕ) → a < 0x60 → dataPlace (registerAt a) ≡ true → dataRegister a ≡ true
@@ -303,32 +271,18 @@ module _ (rows : List Contents) (sixteen : length rows ≡ 16) (a : ℕ) where
       none-value h = ap (λ (b : Contents). Value (getD (b .bytes) p 0)) (sym (List·getD-eq-default rows noContents (omega arith)))
 
 module _ (c : Controller) (sixteen : length (c .rows) ≡ 16) (a : ℕ) where
+  region-value : (g : Region) (v : ℕ) → (dataIn g ≡ true → dataRegister a ≡ true) →
+      answerOf (read a) (c .rows) (replyIn (c .control) (heads (c .rows)) g v) ≡ Value (valueIn c g v)
+  unfolding dataIn
+  region-value (sendPlace p) v d = window-value (c .rows) sixteen a (c .control .transmit .holder) p (λ t. d (ap not t))
+  region-value (receivePlace p) v d = window-value (c .rows) sixteen a (c .control .receive .holder) p (λ t. d (ap not t))
+  region-value (fifoPlace p) v d = window-value (c .rows) sixteen a (fifoHolder (c .control)) p (λ t. d (ap not t))
+  region-value elsewhere v d = refl
+
   register-value : (r : Register) → (dataPlace r ≡ true → dataRegister a ≡ true) →
       answerOf (read a) (c .rows) (readReply (c .control) (heads (c .rows)) r) ≡ Value (registerValue c r)
   unfolding readReply registerValue dataPlace
-  register-value Mcr d = refl
-  register-value Fsizr d = refl
-  register-value Tcr1 d = refl
-  register-value Tcr2 d = refl
-  register-value Tcr3 d = refl
-  register-value Risr d = refl
-  register-value Gisr d = refl
-  register-value Rier d = refl
-  register-value Gier d = refl
-  register-value Rivec d = refl
-  register-value Tivec d = refl
-  register-value Fidac d = refl
-  register-value Fidmr d = refl
-  register-value Mvr d = refl
-  register-value Pctlbf d = refl
-  register-value Buflock d = refl
-  register-value Fidrj d = refl
-  register-value Fidrmr d = refl
-  register-value (TransmitWindow p) d = window-value (c .rows) sixteen a (c .control .transmit .holder) p (λ t. d (ap not t))
-  register-value (ReceiveWindow p) d = window-value (c .rows) sixteen a (c .control .receive .holder) p (λ t. d (ap not t))
-  register-value (FifoWindow p) d = window-value (c .rows) sixteen a (fifoHolder (c .control)) p (λ t. d (ap not t))
-  register-value (Bufctl n) d = refl
-  register-value Reserved d = refl
+  register-value r d = region-value (regionOf r) (valueOf (c .control) r) d
 
   low-address : readRefusal (c .control) a ≡ 0 → a < 0x60
   unfolding readRefusal firstOf refuses1
@@ -364,31 +318,16 @@ module _ (c : Controller) (a v : ℕ) where
       by-test (eqb p 0) (λ t. simp (pick-true, t))
       (λ t. by-test (eqb p 1) (λ u. simp (pick-true, pick-false, t, u)) (λ u. simp (pick-false, t, u)))
 
+  region-rows : (g : Region) → moveAll (write a v) (movesIn (c .control) g v) (c .rows) ≡ rowsIn c g v
+  unfolding moveAll
+  region-rows (sendPlace p) = window-rows (c .control .transmit .holder) p
+  region-rows (receivePlace p) = window-rows (c .control .receive .holder) p
+  region-rows (fifoPlace p) = refl
+  region-rows elsewhere = refl
+
   moved-rows : (r : Register) → moveAll (write a v) (writeMoves (c .control) r v) (c .rows) ≡ writtenRows c r v
   unfolding writeMoves writtenRows moveAll
-  moved-rows Mcr = refl
-  moved-rows Fsizr = refl
-  moved-rows Tcr1 = refl
-  moved-rows Tcr2 = refl
-  moved-rows Tcr3 = refl
-  moved-rows Risr = refl
-  moved-rows Gisr = refl
-  moved-rows Rier = refl
-  moved-rows Gier = refl
-  moved-rows Rivec = refl
-  moved-rows Tivec = refl
-  moved-rows Fidac = refl
-  moved-rows Fidmr = refl
-  moved-rows Mvr = refl
-  moved-rows Pctlbf = refl
-  moved-rows Buflock = refl
-  moved-rows Fidrj = refl
-  moved-rows Fidrmr = refl
-  moved-rows (TransmitWindow p) = window-rows (c .control .transmit .holder) p
-  moved-rows (ReceiveWindow p) = window-rows (c .control .receive .holder) p
-  moved-rows (FifoWindow p) = refl
-  moved-rows (Bufctl n) = refl
-  moved-rows Reserved = refl
+  moved-rows r = region-rows (regionOf r)
 
   write-plan : writeRefusal (c .control) a v ≡ 0 →
       decide (c .control) (heads (c .rows)) (write a v)

@@ -1,10 +1,18 @@
+-- definitions
 pub mod Carry
 pub mod Session
+pub mod Calls
 pub mod View
+-- final statements
 pub mod Demand3
+pub mod Runs
 pub mod Unchanged
 pub mod Untouched
+-- nothing to believe: laws, and the code's own definitions
+pub mod ViewLaws
+pub mod RunLaws
+pub mod UnchangedLaws
+pub mod UntouchedLaws
+pub mod RowLaws
 pub mod Code
 pub mod CodeLaws
-pub mod RowLaws
-pub mod Runs

@@ -6,16 +6,16 @@ use native.Mathlib.Omega.{arith}
 use lib.ListN.{getD}
 use Rattle.masks.specs.Bits.{maskOf, highest}
 use Rattle.masks.specs.Laws.{bit-mask, same-mask}
-use Rattle.masks.specs.Search.{lowest-ext, highest-ext}
+use Rattle.masks.specs.SearchLaws.{lowest-ext, highest-ext}
 use Rattle.contents.specs.declared.Contents.{Contents}
-use Rattle.rows.specs.Search.{carriesAt, namedAt, isNamedIn, lowestWith, highestWith, namedOf}
+use Rattle.search.specs.CodeSearch.{carriesAt, namedAt, isNamedIn, lowestWith, highestWith, namedOf}
 use Rattle.rules.specs.declared.Control.{Control}
 use Rattle.rules.specs.Kinds.{isReceive, isFullTransmit}
 use Rattle.rules.specs.Plan.{headAt}
 use Rattle.rules.specs.Bus.{receives, lookup, offers}
 use Rattle.bus_steps.specs.Code.{isNamed, isReady}
 use Rattle.controller.specs.Carry.{heads, rowAt}
-use Rattle.controller.specs.View.{head-at}
+use Rattle.controller.specs.ViewLaws.{head-at}
 
 -- the identifier in the head is that in the bytes
 ident-same : (rows : List Contents) (n : ℕ) → headAt (heads rows) n .ident ≡ getD (rowAt rows n .bytes) 0 0

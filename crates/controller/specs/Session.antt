@@ -2,7 +2,8 @@
 -- is stated for any rules, and then for document 01's.
 use Prim.Native.Nat.{ℕ}
 use mathlib.Core.Bool.{Bool}
-use mathlib.Core.List.{List, [], _∷_}
+use mathlib.Core.List.{List, [], _∷_, map}
+use mathlib.Core.Path.{_≡_}
 use Rattle.masks.specs.Pick.{pick}
 use Rattle.contents.specs.Payload.{zeros, hideData, seenPart}
 use Rattle.rules.specs.declared.Control.{Control}
@@ -12,12 +13,12 @@ use Rattle.rules.specs.Plan.{Rules}
 use Rattle.rules.specs.Flags.{linesOf}
 use Rattle.rules.specs.Rules.{decide}
 use Rattle.controller.specs.Carry.{Outcome, carry, heads}
-use Rattle.rules.specs.Answers.{Word, wordOf, Detail, dash, value, buffer, bytes, kind, number, detailOf}
+use Rattle.rules.specs.Answers.{wordOf, Given, dash, value, buffer, counted, kind, number, Detail, given, bytes, detailOf}
 
--- What a step reports: the replay text's answer and detail, the content of the lent room, and the five lines after the
--- step. A count that a later request reports is one more field here.
+-- What a step reports: the replay text's answer and detail, beside a sent frame's bytes their count, the content of the lent
+-- room, and the five lines after the step. A count that a later request reports is one more field here.
 pub record Report : Type 0 where
-  pub word : Word
+  pub word : ℕ
   pub detail : Detail
   pub room : List ℕ
   pub lines : ℕ
@@ -59,25 +60,30 @@ runOf = runBy decide linesOf
 unfoldable pub endOf : Controller → List Step → Controller
 endOf = endBy decide
 
+-- "Two sessions are alike if their steps are the same in the same order, with equal arguments except" what `hide` puts
+-- to 0; "slices and rooms are equally long", which `hide` leaves.
+abbrev pub Alike : List Step → List Step → Type 0
+Alike xs ys = map hide xs ≡ map hide ys
+
 -- ---- what alike sessions agree on: "except a value read from a data register and a sent frame's bytes from byte 2 on"
 
 -- the detail with those put to 0; the test says that a data register was read
+abbrev pub seenGiven : Bool → Given → Given
+seenGiven d dash = dash
+seenGiven d (value v) = value (pick d 0 v)
+seenGiven d (buffer n) = buffer n
+seenGiven d (counted k) = counted k
+seenGiven d (kind k) = kind k
+seenGiven d (number r) = number r
+
 abbrev pub seenDetail : Bool → Detail → Detail
-seenDetail d dash = dash
-seenDetail d (value v) = value (pick d 0 v)
-seenDetail d (buffer n) = buffer n
-seenDetail d (bytes f) = bytes (hideData f)
-seenDetail d (kind k) = kind k
-seenDetail d (number r) = number r
+seenDetail d (given g) = given (seenGiven d g)
+seenDetail d (bytes k f) = bytes k (hideData f)
 
 -- the room with all but a sent frame's identifier and length put to 0
 abbrev pub seenRoom : Detail → List ℕ → List ℕ
-seenRoom dash room = zeros room
-seenRoom (value v) room = zeros room
-seenRoom (buffer n) room = zeros room
-seenRoom (bytes f) room = seenPart f room
-seenRoom (kind k) room = zeros room
-seenRoom (number r) room = zeros room
+seenRoom (given g) room = zeros room
+seenRoom (bytes k f) room = seenPart f room
 
 abbrev pub seen : Step → Report → Report
 seen e r =

@@ -1,9 +1,10 @@
-// The emulated Byteflight controller: the control state and the sixteen buffers' bytes. Its methods take the record by value
-// and return the next one with its answer, one for each call or event; none asks anything of its caller.
-mod changes;
-mod events;
-mod registers;
-mod step;
+// The emulated Byteflight controller: the control state and the sixteen buffers' bytes. What it shows are document 01's calls, as
+// methods that take the record by value and return the next one with its answer, one for each call or event; none asks anything
+// of its caller. The other modules say what a call changes, for these methods and for the step on a lent record.
+mod calls;
+pub mod changes;
+pub mod events;
+pub mod registers;
 
 use contents::Contents;
 use rules::Answer;
@@ -23,11 +24,11 @@ pub struct Done {
     pub answer: Answer,
 }
 
-// What a step changes: the control state, and the bytes of one buffer. A place of 16 stands for no buffer, 17 for all of
-// them blank. It is small, so that a step in place writes no more of the record than it changes.
+// What a step changes: the control state, and the bytes of one buffer, or of none where its number is 16 or more. It is small, so
+// that a step in place writes no more of the record than it changes.
 pub struct Change {
     pub control: Control,
-    pub place: u8,
+    pub buffer: u8,
     pub bytes: [u8; 14],
     pub answer: Answer,
 }
@@ -43,10 +44,4 @@ pub enum Call {
     Frame(bool),
     Fault(Fault),
     Timeout,
-}
-
-// A frame's bytes as a value: the first size of them, all thirty where size is larger. No line of a recording has more.
-pub struct FrameBytes {
-    pub bytes: [u8; 30],
-    pub size: u8,
 }

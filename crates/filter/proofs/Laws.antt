@@ -8,7 +8,7 @@ use lib.Dec.{eqb}
 use lib.Bits.{bitAnd, bitXor, xor-shr, xor-mod, and-le-r}
 use Rattle.masks.specs.Bits.{bitOf, someOf}
 use Rattle.masks.specs.Laws.{bit-and, bit-not, bit-high}
-use Rattle.masks.specs.Search.{some-bit}
+use Rattle.masks.specs.SearchLaws.{some-bit}
 use Rattle.filter.specs.declared.Filter.{Filter}
 use Rattle.filter.specs.Match.{agrees, matches}
 

@@ -6,18 +6,18 @@ use mathlib.Core.List.{List}
 use borrow.Author.Tests.{eq-eqb, ne-eqb}
 use lib.Dec.{T as Holds, eqb, eqb→eq}
 use mir.Facts.{eqb-no}
-use Rattle.masks.specs.Pick.{pick-true, pick-false, by-test}
+use Rattle.masks.specs.PickLaws.{pick-true, pick-false, by-test}
 use Rattle.rules.specs.declared.Answer.{Answer}
 use Rattle.rules.specs.Flags.{linesOf}
 use Rattle.controller.specs.declared.Controller.{Controller}
 use Rattle.controller.specs.declared.Call.{Call}
 use Rattle.controller.specs.Carry.{resetState}
 use Rattle.controller.specs.Session.{stepOf}
-use Rattle.controller.specs.Code.{doneOf, stepFor, roomFor}
-use Rattle.numbers.specs.Answers.{numberOf, wrongSize}
-use Rattle.numbers.specs.Calls.{recordSize, Asked, Step}
-use Rattle.numbers.specs.Code.{knownOf, judgedOf, meantOf}
-use Rattle.numbers.specs.CodeLaws.{call-if, right-known, right-unknown, other-size, judged-size, judged-call}
+use Rattle.controller.specs.Calls.{doneOf, stepFor, roomFor}
+use Rattle.encoding.specs.Answers.{numberOf, wrongSize}
+use Rattle.encoding.specs.Calls.{recordSize, Asked, Known}
+use Rattle.encoding.specs.Code.{knownOf, judgedOf, meantOf}
+use Rattle.encoding.specs.CodeLaws.{call-if, right-known, right-unknown, other-size, judged-size, judged-call}
 use Rattle.hevrukan.specs.Interface.{Effect, unchanged, effectOf, stepEffect, resetNext, resetAnswer, linesAnswer}
 
 -- ---- a step's end, for the number n that the numbers are judged as; how a test came out is a `Holds`
@@ -48,14 +48,14 @@ module _ (c : Controller) (size kind first second : ℕ) (frame room : List ℕ)
 
   -- at 0 it is the step of the call that is meant
   abbrev pub Makes : Call → Type 0
-  Makes call = effect ≡ effectOf c (Step call) frame room
+  Makes call = effect ≡ effectOf c (Known call) frame room
 
   pub called : (n : ℕ) (call : Call) → n ≡ judgedOf size kind first second → Holds (not (not (eqb n 0))) → call ≡ meantOf kind first second → Makes call
   unfolding stepEffect
   called n call e h m =
       let z : judgedOf size kind first second ≡ 0 = sym e ∙ eqb→eq n 0 (not-not (eqb n 0) h) in
       pick-true _ _ _ (judged-size size kind first second z)
-      ∙ ap (λ (a : Asked). effectOf c a frame room) (judged-call size kind first second z ∙ ap Step (sym m))
+      ∙ ap (λ (a : Asked). effectOf c a frame room) (judged-call size kind first second z ∙ ap Known (sym m))
 
   pub made : (call : Call) {next : Controller} {a : Answer} {zs : List ℕ} {m : ℕ} → Makes call →
       (next ≡ doneOf (stepOf c (stepFor call frame room)) .next) × (a ≡ doneOf (stepOf c (stepFor call frame room)) .answer) × (zs ≡ roomFor c call room) →

@@ -8,9 +8,9 @@ use Rattle.rules.specs.Flags.{linesOf}
 use Rattle.controller.specs.declared.Controller.{Controller}
 use Rattle.controller.specs.Carry.{resetState}
 use Rattle.controller.specs.Session.{stepOf}
-use Rattle.controller.specs.Code.{stepFor, roomFor}
-use Rattle.numbers.specs.Answers.{numberOf, unknown, wrongSize}
-use Rattle.numbers.specs.Calls.{recordSize, Asked, Step, Unknown, callOf}
+use Rattle.controller.specs.Calls.{stepFor, roomFor}
+use Rattle.encoding.specs.Answers.{numberOf, unknown, wrongSize}
+use Rattle.encoding.specs.Calls.{recordSize, Asked, Known, Unknown, callOf}
 
 pub record Effect : Type 0 where
   pub next : Controller
@@ -23,7 +23,7 @@ unchanged c room n = record { next = c; answer = n; room = room }
 
 -- a step of document 01 with the whole frame slice and room that the caller passed, or nothing
 unfoldable pub effectOf : Controller → Asked → List ℕ → List ℕ → Effect
-effectOf c (Step call) frame room =
+effectOf c (Known call) frame room =
     record {
       next = stepOf c (stepFor call frame room) .next;
       answer = numberOf (stepOf c (stepFor call frame room) .answer);

@@ -3,12 +3,12 @@ use mathlib.Core.Path.{_≡_, sym, ap, _∙_}
 use Prim.Native.Nat.{ℕ}
 use mathlib.Core.List.{List}
 use lib.Dec.{eqb}
-use Rattle.masks.specs.Pick.{pick-true, pick-false, by-test}
+use Rattle.masks.specs.PickLaws.{pick-true, pick-false, by-test}
 use Rattle.controller.specs.declared.Controller.{Controller}
 use Rattle.controller.specs.declared.Done.{Done}
 use Rattle.controller.specs.CodeLaws.{reset-step}
-use Rattle.numbers.specs.Answers.{numberOf}
-use Rattle.numbers.specs.Calls.{recordSize, callOf}
+use Rattle.encoding.specs.Answers.{numberOf}
+use Rattle.encoding.specs.Calls.{recordSize, callOf}
 use Rattle.hevrukan.specs.Interface.{Effect, effectOf, stepEffect, resetNext, resetAnswer}
 
 -- `hevrukan_reset` is the step of kind 0, whatever its numbers, frame and room

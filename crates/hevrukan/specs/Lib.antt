@@ -1,3 +1,5 @@
+-- definitions
 pub mod Interface
+-- nothing to believe: laws, and the code's own definitions
 pub mod Laws
 pub mod CodeLaws

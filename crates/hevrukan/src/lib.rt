@@ -2,12 +2,11 @@
 // first is given the record's size and looks at that alone where it is another, so that a caller that was built for another
 // record is told so.
 ghost use mathlib.Core.Path.{_≡_};
-ghost use Rattle.numbers.specs.Calls.{recordSize};
+ghost use Rattle.encoding.specs.Calls.{recordSize};
 ghost use Rattle.hevrukan.specs.Interface.{stepEffect, resetNext, resetAnswer, linesAnswer};
-use controller::Call;
 use controller::Controller;
-use numbers::SIZE;
-use numbers::WRONG_SIZE;
+use encoding::SIZE;
+use encoding::WRONG_SIZE;
 
 // The bytes of a record.
 #[no_mangle]
@@ -42,16 +41,13 @@ pub extern "C" fn hevrukan_step(
 ) -> u32
     ensures { λ r. ⌜ stepEffect (now (c .entry)) size kind first second (now (frame .entry)) (now (room .entry)) ≡ record { next = now (c .exit); answer = r; room = now (room .exit) } ⌝ }
 {
-    let wrong = numbers::calls::judged(size, kind, first, second);
+    let wrong = encoding::calls::judged(size, kind, first, second);
     if wrong != 0 {
         return wrong;
     }
-    let call = numbers::calls::meant(kind, first, second);
-    let answer = match call {
-        Call::Frame(good) => lent::frame(c, good, frame),
-        _ => lent::step(c, call, numbers::calls::no_frame(), room),
-    };
-    numbers::answers::number(answer)
+    let call = encoding::calls::meant(kind, first, second);
+    let answer = in_place::step(c, call, frame, room);
+    encoding::answers::number(answer)
 }
 
 // The five lines, 0 to 31: bit 4 FIFO, 3 receive, 2 sync, 1 XSYNC, 0 general.
@@ -62,5 +58,5 @@ pub extern "C" fn hevrukan_lines(c: &Controller, size: usize) -> u32
     if size != SIZE {
         return WRONG_SIZE;
     }
-    numbers::answers::wide((*c).lines())
+    encoding::answers::wide((*c).lines())
 }

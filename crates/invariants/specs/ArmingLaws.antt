@@ -5,9 +5,9 @@ use mathlib.Core.Bool.{true, false, _&&_}
 use borrow.Author.Tests.{ne-eqb}
 use lib.ListN.{set}
 use lib.Dec.{eqb}
-use Rattle.masks.specs.Pick.{pick-keeps}
+use Rattle.masks.specs.PickLaws.{pick-keeps}
 use Rattle.masks.specs.Laws.{put-other}
-use Rattle.masks.specs.Search.{never-both}
+use Rattle.masks.specs.SearchLaws.{never-both}
 use Rattle.locks.specs.declared.Locks.{Locks}
 use Rattle.locks.specs.Pair.{takeLock, releaseLock}
 use Rattle.contents.specs.Bytes.{Head}
@@ -17,17 +17,15 @@ use Rattle.rules.specs.declared.Events.{Events}
 use Rattle.rules.specs.declared.Fifo.{Fifo}
 use Rattle.rules.specs.declared.Control.{Control}
 use Rattle.rules.specs.Record.{withFifo, withReceive, withTransmit}
-use Rattle.rules.specs.Registers.{has, LOCK}
-use Rattle.rules.specs.Kinds.{isTransmit, isReceive, isArmed, isLocked}
+use Rattle.rules.specs.Kinds.{isTransmit, isArmed, isLocked}
 use Rattle.rules.specs.Modes.{enter}
 use Rattle.rules.specs.Writes.{disarm, lockFifo, releaseFifo, unlock}
 use Rattle.controller.specs.View.{View}
 use Rattle.invariants.specs.Sound.{Armed, ArmingSound}
-use Rattle.invariants.specs.Kept.{at, flagged}
+use Rattle.invariants.specs.KeptLaws.{at, flagged}
 use Rattle.invariants.specs.BitLaws.{put-clear, put-away, bit-absent}
 use Rattle.invariants.specs.ViewLaws.{head-other}
 use Rattle.invariants.specs.LockLaws.{Unlocked, unlocked-parts, unlocked-by, take-free, release-free}
-use Rattle.invariants.specs.ControlWrite.{LockKept}
 
 -- buffers of different CFG differ
 pub kinds-apart : (c : Control) (k n : ℕ) → isTransmit c k ≡ true → isTransmit c n ≡ false → k ≡ n → ⊥
@@ -125,7 +123,7 @@ module _ (w : View) (s : ArmingSound w) (n : ℕ) where
   d = w .control
 
   -- a transmit buffer is disarmed
-  transmit-locked : ArmingSound (at w (withTransmit (disarm d n) (takeLock (d .transmit) n)))
+  pub transmit-locked : ArmingSound (at w (withTransmit (disarm d n) (takeLock (d .transmit) n)))
   transmit-locked =
       locks-arming (at w (disarm d n)) (disarm-arming w s n) (d .receive) (takeLock (d .transmit) n) (d .fifo) (λ k b a q u.
       record {
@@ -135,7 +133,7 @@ module _ (w : View) (s : ArmingSound w) (n : ℕ) where
       })
 
   -- a buffer of another kind isn't armed
-  receive-locked : isTransmit d n ≡ false → ArmingSound (at w (withReceive d (takeLock (d .receive) n)))
+  pub receive-locked : isTransmit d n ≡ false → ArmingSound (at w (withReceive d (takeLock (d .receive) n)))
   receive-locked t =
       locks-arming w s (takeLock (d .receive) n) (d .transmit) (d .fifo) (λ k b a q u.
       record {
@@ -144,7 +142,7 @@ module _ (w : View) (s : ArmingSound w) (n : ℕ) where
         fifo = u .fifo;
       })
 
-  fifo-locked : isTransmit d n ≡ false → n ≡ d .fifo .oldest → ArmingSound (at w (withFifo d (lockFifo (d .fifo))))
+  pub fifo-locked : isTransmit d n ≡ false → n ≡ d .fifo .oldest → ArmingSound (at w (withFifo d (lockFifo (d .fifo))))
   fifo-locked t e =
       locks-arming w s (d .receive) (d .transmit) (lockFifo (d .fifo)) (λ k b a q u.
       record {
@@ -159,7 +157,7 @@ module _ (w : View) (s : ArmingSound w) (n : ℕ) where
   fifo-released k e =
       pick-keeps (λ (f : Fifo). (f .locked && eqb k (f .oldest)) ≡ false) (d .fifo .locked && eqb n (d .fifo .oldest)) (λ t. refl) (λ t. e)
 
-  unlock-arming : ArmingSound (at w (unlock d n))
+  pub unlock-arming : ArmingSound (at w (unlock d n))
   unfolding unlock
   unlock-arming =
       locks-arming w s (releaseLock (d .receive) n) (releaseLock (d .transmit) n) (releaseFifo d n) (λ k b a q u.
@@ -168,17 +166,3 @@ module _ (w : View) (s : ArmingSound w) (n : ℕ) where
         transmit = release-free (d .transmit) n k (u .transmit) b;
         fifo = fifo-released k (u .fifo);
       })
-
-  -- a new lock in the FIFO is on its oldest entry
-  pub lock-arming : (v : ℕ) →
-      (has v LOCK ≡ true → isLocked d n ≡ false → isTransmit d n ≡ false → isReceive d n ≡ false → n ≡ d .fifo .oldest) →
-      LockKept (λ (x : Control). ArmingSound (at w x)) d n v
-  lock-arming v oldest =
-      record {
-        now = s;
-        enters = λ x q. enter-arming w s x;
-        transmits = λ u t. transmit-locked;
-        receives = λ u t r. receive-locked t;
-        queues = λ a u t r. fifo-locked t (oldest a u t r);
-        unlocks = unlock-arming;
-      }

@@ -6,11 +6,11 @@ use mathlib.Core.Bool.{true, false, _&&_, not}
 use borrow.Author.Tests.{ne-eqb}
 use lib.ListN.{set, length, length-set}
 use lib.Dec.{eqb, leb}
-use Rattle.masks.specs.Pick.{pick-keeps}
+use Rattle.masks.specs.PickLaws.{pick-keeps}
 use Rattle.masks.specs.Bits.{bitOf}
 use Rattle.masks.specs.Laws.{put-other}
-use Rattle.masks.specs.Search.{never-both}
-use Rattle.locks.specs.Pair.{takeLock, releaseLock}
+use Rattle.masks.specs.SearchLaws.{never-both}
+use Rattle.locks.specs.Pair.{releaseLock}
 use Rattle.contents.specs.Bytes.{Head}
 use Rattle.rules.specs.declared.Fifo.{Fifo}
 use Rattle.rules.specs.declared.Control.{Control}
@@ -18,15 +18,14 @@ use Rattle.rules.specs.Record.{withFifo, withReceive, withTransmit}
 use Rattle.rules.specs.Registers.{emptyFifo}
 use Rattle.rules.specs.Kinds.{isTransmit, isReceive, hasIflg}
 use Rattle.rules.specs.Modes.{enter}
-use Rattle.rules.specs.Writes.{disarm, lockFifo, releaseFifo, withoutOldest, unlock}
+use Rattle.rules.specs.Writes.{releaseFifo, withoutOldest, unlock}
 use Rattle.rules.specs.Plan.{headAt}
 use Rattle.controller.specs.View.{View}
 use Rattle.invariants.specs.Sound.{isEntry, ContentsSound}
-use Rattle.invariants.specs.Kept.{at, flagged}
+use Rattle.invariants.specs.KeptLaws.{at, flagged}
 use Rattle.invariants.specs.BitLaws.{bit-absent}
 use Rattle.invariants.specs.ViewLaws.{head-cases, receive-kind}
-use Rattle.invariants.specs.ControlWrite.{LockKept}
-use Rattle.invariants.specs.Entries.{entry-same, entry-none, entry-released, entry-kind}
+use Rattle.invariants.specs.EntryLaws.{entry-same, entry-none, entry-released, entry-kind}
 
 -- with no IFLG and no entry only the heads' lengths are asked for
 pub idle-contents : (x : View) → x .control .buffers .iflg ≡ 0 → x .control .fifo ≡ emptyFifo → length (x .heads) ≡ 16 →
@@ -97,7 +96,7 @@ module _ (w : View) (s : ContentsSound w) where
 
   -- ---- LOCK
 
-  unlock-contents : (n : ℕ) → (0 < c .config .fsiz → c .fifo .oldest < c .config .fsiz) → c .fifo .count ≤ c .config .fsiz → ContentsSound (at w (unlock c n))
+  pub unlock-contents : (n : ℕ) → (0 < c .config .fsiz → c .fifo .oldest < c .config .fsiz) → c .fifo .count ≤ c .config .fsiz → ContentsSound (at w (unlock c n))
   unfolding unlock releaseFifo
   unlock-contents n first fits =
       let freed : Fifo → Control = λ f. withFifo (withTransmit (withReceive c (releaseLock (c .receive) n)) (releaseLock (c .transmit) n)) f in
@@ -105,18 +104,6 @@ module _ (w : View) (s : ContentsSound w) where
       (λ t. less-contents (freed (withoutOldest c)) (λ k b r f. (r, f)) (λ m e.
       entry-released c m first fits (entry-same (freed (withoutOldest c)) m (withFifo c (withoutOldest c)) refl refl refl ∙ e)) (λ m k e b r. r))
       (λ t. same-contents (freed (c .fifo)) refl)
-
-  pub lock-contents : (n v : ℕ) → (0 < c .config .fsiz → c .fifo .oldest < c .config .fsiz) → c .fifo .count ≤ c .config .fsiz →
-      LockKept (λ (x : Control). ContentsSound (at w x)) c n v
-  lock-contents n v first fits =
-      record {
-        now = s;
-        enters = λ x q. enter-contents x;
-        transmits = λ u t. same-contents (withTransmit (disarm c n) (takeLock (c .transmit) n)) refl;
-        receives = λ u t r. same-contents (withReceive c (takeLock (c .receive) n)) refl;
-        queues = λ a u t r. same-contents (withFifo c (lockFifo (c .fifo))) refl;
-        unlocks = unlock-contents n first fits;
-      }
 
 -- ---- another head
 

@@ -7,11 +7,11 @@ use native.Mathlib.Omega.{arith}
 use borrow.Author.Tests.{not-true}
 use lib.Dec.{leb}
 use lib.Bits.{bitAnd, bitOr, and-zero-l, and-le-r}
-use Rattle.masks.specs.Pick.{pick-keeps}
+use Rattle.masks.specs.PickLaws.{pick-keeps}
 use Rattle.masks.specs.Bits.{bitOf, rising, countOf}
 use Rattle.masks.specs.Laws.{bit-and, bit-or, bit-not}
-use Rattle.masks.specs.Search.{count-ext}
-use Rattle.masks.specs.Layout.{rising-ext}
+use Rattle.masks.specs.SearchLaws.{count-ext}
+use Rattle.masks.specs.LayoutLaws.{rising-ext}
 use Rattle.rules.specs.declared.Events.{Events}
 use Rattle.rules.specs.declared.Fifo.{Fifo}
 use Rattle.rules.specs.declared.Control.{Control}
@@ -22,8 +22,8 @@ use Rattle.rules.specs.Flags.{cleared, risrEvents, gisrEvents, writeRisr, defer
 use Rattle.rules.specs.Modes.{enter}
 use Rattle.controller.specs.View.{View}
 use Rattle.invariants.specs.Sound.{ModeSound, Idle}
-use Rattle.invariants.specs.Kept.{at}
-use Rattle.invariants.specs.Tests.{impossible, and-left, and-right}
+use Rattle.invariants.specs.KeptLaws.{at}
+use Rattle.invariants.specs.TestLaws.{impossible, and-left, and-right}
 
 -- ---- SYNLIF, bit 3 of the flags g
 

@@ -1,115 +1,102 @@
--- Every session from reset: the record after it is sound, and no bus event changes a locked buffer.
-use mathlib.Core.Path.{_≡_, refl, sym, ap, _∙_}
-use Prim.Native.Nat.{ℕ, _+_, _<_, _≤_}
-use mathlib.Core.Bool.{Bool, true, false, _&&_, not, and-false, false≢true}
-use mathlib.Core.List.{List, [], _∷_}
-use native.Mathlib.Omega.{arith}
-use borrow.Author.Tests.{ne-eqb, lt-leb, ltb-true, ltb-false}
+-- Every session from reset: the record after it is sound, no bus event changes a locked buffer, and registers read what
+-- document 01 says of flags and reserved bits.
+use mathlib.Core.Path.{_≡_, refl, ap, _∙_}
+use Prim.Native.Nat.{ℕ, _<_}
+use mathlib.Core.Bool.{true, _||_}
+use mathlib.Core.List.{List}
+use borrow.Author.Tests.{eq-eqb}
 use lib.Dec.{eqb, ltb}
-use Rattle.masks.specs.Pick.{by-test}
-use Rattle.locks.specs.declared.Locks.{Locks}
-use Rattle.locks.specs.Pair.{inPair}
-use Rattle.rules.specs.declared.Control.{Control}
-use Rattle.rules.specs.Kinds.{isTransmit, isReceive, isLocked}
-use Rattle.rules.specs.Steps.{Step, hide}
-use Rattle.rules.specs.Rules.{decide}
-use Rattle.rules.specs.Untouched.{isBusEvent, NextFree}
-use Rattle.controller.specs.declared.Controller.{Controller}
-use Rattle.controller.specs.Carry.{resetState}
-use Rattle.controller.specs.Session.{stepBy, endBy, endOf}
-use Rattle.controller.specs.View.{View, viewOf, viewNext, step-view}
+use lib.Bits.{bitAnd}
+use Rattle.masks.specs.Pick.{pick}
+use Rattle.masks.specs.PickLaws.{pick-true}
+use Rattle.masks.specs.Bits.{bitOf, someOf}
+use Rattle.locks.specs.Pair.{hasContender}
+use Rattle.rules.specs.declared.Answer.the-variants.{Value}
+use Rattle.rules.specs.Registers.{Region, elsewhere, regionOf, has, withFlag, lowMap, registerAt, RCVFIF, RXIF, TXIF, LOCKIF}
+use Rattle.rules.specs.Kinds.{isLocked, lockif}
+use Rattle.rules.specs.Flags.{receivePending, transmitPending, rcvfif, rxif, txif, risr, gisr}
+use Rattle.rules.specs.Reads.{valueOf, replyIn, readReply}
+use Rattle.rules.specs.Refusals.{refusal}
+use Rattle.rules.specs.Plan.{Plan}
+use Rattle.rules.specs.Steps.{Step, read}
+use Rattle.rules.specs.Rules.{act, decide}
+use Rattle.rules.specs.Untouched.{isBusEvent}
+use Rattle.controller.specs.Carry.{resetState, heads, answerOf, carry}
+use Rattle.controller.specs.Session.{stepOf, endOf}
+use Rattle.controller.specs.View.{viewOf}
 use Rattle.controller.specs.Untouched.{Untouched, locked-untouched}
-use Rattle.invariants.specs.Sound.{PairSound, Sound}
-use Rattle.invariants.specs.Kept.{resetView}
-use Rattle.invariants.specs.Keeps.{step-kept}
-use Rattle.invariants.specs.ViewLaws.{lawful-low}
-use Rattle.invariants.specs.KeptLocks.{locks-kept, locks-reset}
-use Rattle.invariants.specs.KeptFifo.{fifo-kept, fifo-reset}
-use Rattle.invariants.specs.KeptModes.{modes-kept, modes-reset}
-use Rattle.invariants.specs.KeptBits.{bits-kept, bits-reset}
-use Rattle.invariants.specs.KeptArming.{arming-kept, arming-reset}
-use Rattle.invariants.specs.KeptContents.{contents-kept, contents-reset}
-
-pub reset-sound : Sound resetView
-reset-sound =
-    record {
-      locks = locks-reset;
-      fifo = fifo-reset;
-      modes = modes-reset;
-      bits = bits-reset;
-      arming = arming-reset;
-      contents = contents-reset;
-    }
-
-pub step-sound : (w : View) → Sound w → (e : Step) → Sound (viewNext decide w e)
-step-sound w s e =
-    record {
-      locks = step-kept _ w (s .locks) (locks-kept w s) locks-reset e;
-      fifo = step-kept _ w (s .fifo) (fifo-kept w s) fifo-reset e;
-      modes = step-kept _ w (s .modes) (modes-kept w s) modes-reset e;
-      bits = step-kept _ w (s .bits) (bits-kept w s) bits-reset e;
-      arming = step-kept _ w (s .arming) (arming-kept w s) arming-reset e;
-      contents = step-kept _ w (s .contents) (contents-kept w s) contents-reset e;
-    }
-
-session-sound : (c : Controller) (es : List Step) → Sound (viewOf c) → Sound (viewOf (endBy decide c es))
-unfolding endBy
-session-sound c [] s = s
-session-sound c (e ∷ es) s =
-    session-sound (stepBy decide c e .next) es (rw (step-view decide c e) (step-sound (viewOf c) s (hide e)))
+use Rattle.invariants.specs.Sound.{RISR, GISR, RegistersSound, Sound}
+use Rattle.invariants.specs.FlagLaws.{bit-absent-in, flag-own, flag-other}
+use Rattle.invariants.specs.Reads.{reservedBits, after, reads}
+use Rattle.invariants.specs.ReservedBitLaws.{reserved-by}
+use Rattle.invariants.specs.KeptSoundLaws.{reset-sound}
+use Rattle.invariants.specs.ReachableLaws.{session-sound, next-free}
 
 -- the record after any session from reset is sound
 pub reachable-sound : (es : List Step) → Sound (viewOf (endOf resetState es))
 unfolding endOf resetState
 reachable-sound es = session-sound resetState es reset-sound
 
--- ---- the FIFO's next place is not locked while there is room
-
--- a buffer that isn't of the pair's kind is none of the pair
-not-in-pair : (kind : ℕ → Bool) (l : Locks) (n : ℕ) → PairSound kind l → n < 16 → kind n ≡ false → inPair l n ≡ false
-unfolding inPair
-not-in-pair kind l n p small other =
-    let h : eqb n (l .holder) ≡ false =
-    ne-eqb n (l .holder) (λ e. false≢true (sym other ∙ ap kind e ∙ p .holder-kind (omega arith))) in
-    let c : eqb n (l .contender) ≡ false =
-    ne-eqb n (l .contender) (λ e. false≢true (sym other ∙ ap kind e ∙ p .contender-kind (omega arith))) in
-    simp (h, c)
-
-not-receive : (c : Control) (n : ℕ) → n < c .config .fsiz → isReceive c n ≡ false
-not-receive c n h = simp (lt-leb (c .config .fsiz) n h) (and-false (not (isTransmit c n)))
-
--- with a lock there is an entry, and with room left the next place is behind it
-not-oldest : (w : View) → Sound w → w .control .fifo .count < w .control .config .fsiz → (t : Bool) → w .control .fifo .locked ≡ t →
-    (t && eqb (w .control .fifo .next) (w .control .fifo .oldest)) ≡ false
-not-oldest w s room false e = refl
-not-oldest w s room true e =
-    ne-eqb (w .control .fifo .next) (w .control .fifo .oldest)
-    (λ same.
-    let f = s .fifo in
-    let entry = f .lock-entry e in
-    let old = f .oldest-lt (omega arith) in
-    by-test (ltb (w .control .fifo .oldest + w .control .fifo .count) (w .control .config .fsiz))
-    (λ t. let h = f .next-low (ltb-true _ _ t) in omega arith) (λ t. let h = f .next-high (ltb-false _ _ t) in omega arith))
-
-next-free : (w : View) → Sound w → NextFree (w .control)
-unfolding isLocked
-next-free w s =
-    record {
-      next-free = λ normal room.
-          let f = s .fifo in
-          let low : w .control .fifo .next < w .control .config .fsiz = f .next-lt (omega arith) in
-          let size : w .control .config .fsiz ≤ 16 = f .size-le in
-          let small : w .control .fifo .next < 16 = omega arith in
-          let rx : inPair (w .control .receive) (w .control .fifo .next) ≡ false =
-          not-in-pair (isReceive (w .control)) (w .control .receive) (w .control .fifo .next) (s .locks .receive) small (not-receive (w .control) (w .control .fifo .next) low) in
-          let tx : inPair (w .control .transmit) (w .control .fifo .next) ≡ false =
-          not-in-pair (isTransmit (w .control)) (w .control .transmit) (w .control .fifo .next) (s .locks .transmit) small
-          (lawful-low (w .control) (w .control .fifo .next) (s .modes .lawful normal) size low) in
-          simp (rx, tx) (not-oldest w s room (w .control .fifo .locked) refl);
-    }
-
--- "No bus event changes a locked buffer", after any session from reset
+-- "No bus event changes a locked buffer", its arming and its role included, after any session from reset
 pub locked-stays : (es : List Step) (e : Step) (n : ℕ) → isBusEvent e ≡ true → n < 16 →
     isLocked (endOf resetState es .control) n ≡ true → Untouched (endOf resetState es) e n
 locked-stays es e n b small locked =
     locked-untouched (endOf resetState es) e n (next-free (viewOf (endOf resetState es)) (reachable-sound es)) b small locked
+
+-- ---- what registers read, after any session from reset
+
+-- the value `reads` is what a read gives, if it isn't refused and no window is read
+pub read-gives : (es : List Step) (a : ℕ) → refusal (after es) (read a) ≡ 0 → regionOf (registerAt a) ≡ elsewhere →
+    stepOf (endOf resetState es) (read a) .answer ≡ Value (reads es a)
+unfolding stepOf carry decide act readReply
+read-gives es a r e =
+    let c = endOf resetState es in
+    let hs = heads (c .rows) in
+    let accepted : eqb (refusal (c .control) (read a)) 0 ≡ true = eq-eqb (refusal (c .control) (read a)) 0 r in
+    ap (λ (p : Plan). answerOf (read a) (c .rows) (p .reply)) (pick-true (eqb (refusal (c .control) (read a)) 0) (act (c .control) hs (read a)) _ accepted)
+    ∙ ap (λ (g : Region). answerOf (read a) (c .rows) (replyIn (c .control) hs g (reads es a))) e
+
+-- the kept bytes of $06, $07 and $08 hold no other bits than their event flags and enables
+pub registers-only : (es : List Step) → RegistersSound (viewOf (endOf resetState es))
+registers-only es = reachable-sound es .registers
+
+-- CFG and IENA have a bit for each buffer and no other
+pub cfg-iena-lt : (es : List Step) → (after es .buffers .cfg < 65536) × (after es .buffers .iena < 65536)
+cfg-iena-lt es = (registers-only es .cfg-lt, registers-only es .iena-lt)
+
+-- "RCVFIF: FIFO not empty."
+pub rcvfif-exact : (es : List Step) → has (reads es 0x06) RCVFIF ≡ ltb 0 (after es .fifo .count)
+unfolding valueOf registerAt lowMap pick risr bitOf
+rcvfif-exact es =
+    let c = after es in
+    flag-other (rxif c) RXIF (withFlag (rcvfif c) RCVFIF (c .events .risr)) 7 refl
+    ∙ flag-own (rcvfif c) RCVFIF (c .events .risr) 7 (bit-absent-in RISR (c .events .risr) 7 (registers-only es .risr-only) refl) refl
+
+-- "RXIF, TXIF: some receive (transmit) buffer has IFLG and IENA"
+pub rxif-exact : (es : List Step) → has (reads es 0x06) RXIF ≡ someOf (receivePending (after es)) 16
+unfolding valueOf registerAt lowMap pick risr rxif bitOf
+rxif-exact es =
+    let c = after es in
+    flag-own (rxif c) RXIF (withFlag (rcvfif c) RCVFIF (c .events .risr)) 6
+    (flag-other (rcvfif c) RCVFIF (c .events .risr) 6 refl ∙ bit-absent-in RISR (c .events .risr) 6 (registers-only es .risr-only) refl) refl
+
+pub txif-exact : (es : List Step) → has (reads es 0x07) TXIF ≡ someOf (transmitPending (after es)) 16
+unfolding valueOf registerAt lowMap pick gisr txif bitOf
+txif-exact es =
+    let c = after es in
+    flag-other (lockif c) LOCKIF (withFlag (txif c) TXIF (c .events .gisr)) 7 refl
+    ∙ flag-own (txif c) TXIF (c .events .gisr) 7 (bit-absent-in GISR (c .events .gisr) 7 (registers-only es .gisr-only) refl) refl
+
+-- "LOCKIF is 1 exactly while there is a contender."
+pub lockif-exact : (es : List Step) → has (reads es 0x07) LOCKIF ≡ (hasContender (after es .receive) || hasContender (after es .transmit))
+unfolding valueOf registerAt lowMap pick gisr lockif bitOf
+lockif-exact es =
+    let c = after es in
+    flag-own (lockif c) LOCKIF (withFlag (txif c) TXIF (c .events .gisr)) 1
+    (flag-other (txif c) TXIF (c .events .gisr) 1 refl ∙ bit-absent-in GISR (c .events .gisr) 1 (registers-only es .gisr-only) refl) refl
+
+-- "Reserved bits and addresses read 0"
+pub reserved-reads-0 : (es : List Step) (a : ℕ) → bitAnd (reads es a) (reservedBits (registerAt a)) ≡ 0
+reserved-reads-0 es a =
+    let s = reachable-sound es in
+    reserved-by (after es) (s .registers .risr-only) (s .registers .rier-only) (s .fifo .size-le) (registerAt a)

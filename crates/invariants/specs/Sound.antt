@@ -5,7 +5,9 @@ use Prim.Native.Nat.{ℕ, _+_, _≤_, _<_}
 use mathlib.Core.Bool.{Bool, true, false, _&&_, _||_}
 use lib.ListN.{length}
 use lib.Dec.{eqb, ltb, leb}
+use lib.Bits.{bitAnd}
 use Rattle.locks.specs.declared.Locks.{Locks}
+use Rattle.rules.specs.declared.Events.{Events}
 use Rattle.rules.specs.declared.Fifo.{Fifo}
 use Rattle.rules.specs.declared.Control.{Control}
 use Rattle.rules.specs.Registers.{has, SYNLIF, emptyFifo}
@@ -71,6 +73,32 @@ pub record BitsSound (w : View) : Type 0 where
   -- "A FIFO buffer's IFLG is always 0."
   pub fifo-iflg : (n : ℕ) → n < 16 → isFifo (w .control) n ≡ true → hasIflg (w .control) n ≡ false
 
+-- x has no other bits than m
+unfoldable pub within : ℕ → ℕ → Type 0
+within m x = bitAnd x m ≡ x
+
+-- the event flags of $06 and of $07, and the enables of $08
+abbrev pub RISR : ℕ
+RISR = 0x3A
+
+abbrev pub GISR : ℕ
+GISR = 0x7D
+
+abbrev pub RIER : ℕ
+RIER = 0xFA
+
+-- $06 and $07 are kept as their event flags, and $08 as its enables, without reserved bits and the flags that follow the state
+pub record Registers (f : Events) (rier cfg iena : ℕ) : Type 0 where
+  pub risr-only : within RISR (f .risr)
+  pub gisr-only : within GISR (f .gisr)
+  pub rier-only : within RIER rier
+  -- a bit for each of the buffers 0 to 15
+  pub cfg-lt : cfg < 65536
+  pub iena-lt : iena < 65536
+
+abbrev pub RegistersSound : View → Type 0
+RegistersSound w = Registers (w .control .events) (w .control .config .rier) (w .control .buffers .cfg) (w .control .buffers .iena)
+
 -- an armed buffer n
 pub record Armed (w : View) (n : ℕ) : Type 0 where
   pub transmit : isTransmit (w .control) n ≡ true
@@ -103,5 +131,6 @@ pub record Sound (w : View) : Type 0 where
   pub fifo : FifoSound w
   pub modes : ModeSound w
   pub bits : BitsSound w
+  pub registers : RegistersSound w
   pub arming : ArmingSound w
   pub contents : ContentsSound w

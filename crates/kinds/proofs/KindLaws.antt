@@ -5,7 +5,7 @@ use mathlib.Core.Path.{_≡_, ap, sym, _∙_}
 use native.Mathlib.Omega.{arith}
 use borrow.Author.Tests.{le-leb, lt-leb, ltb-true, ltb-false}
 use lib.Dec.{eqb, ltb, leb}
-use Rattle.masks.specs.Pick.{by-test}
+use Rattle.masks.specs.PickLaws.{by-test}
 use Rattle.masks.specs.Bits.{maskOf}
 use Rattle.masks.specs.Laws.{bit-none, mask-of, not-by-mask, same-mask}
 

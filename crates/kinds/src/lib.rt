@@ -3,9 +3,10 @@ ghost use mathlib.Core.Path.{_≡_};
 ghost use Rattle.masks.specs.Bits.{maskOf};
 ghost use Rattle.rules.specs.Kinds.{isLocked, isFullTransmit, isTransmit, isReceive, isOldest, fifoHolder, lockif, isLawful, placeAfter};
 ghost use Rattle.rules.specs.Writes.{cfgAfter};
+use masks::NONE;
 use rules::Control;
 use rules::bits::CFG;
-use rules::bits::NONE;
+use rules::bits::has;
 
 // Buffer n is a transmit buffer.
 pub fn is_transmit(c: Control, n: u8) -> bool
@@ -86,7 +87,7 @@ pub fn is_oldest(c: Control, n: u8) -> bool
     0 < f.count && n == f.oldest
 }
 
-// The holder of the FIFO window, 16 for none.
+// The holder of the FIFO window, or NONE.
 pub fn fifo_holder(c: Control) -> u8
     ensures { λ r. ⌜ r ≡ fifoHolder c ⌝ }
 {
@@ -120,12 +121,12 @@ pub fn place_after(fsiz: u8, n: u8) -> u8
     if 0 < fsiz && n < fsiz - 1 { n + 1 } else { 0 }
 }
 
-// CFG of buffer n after the write of v.
+// CFG of buffer n after the write of v to its control register: it changes in initialization only.
 pub fn cfg_after(c: Control, n: u8, v: u8) -> bool
     ensures { λ r. ⌜ r ≡ cfgAfter c n v ⌝ }
 {
     if c.mode.init {
-        return v / CFG % 2 == 1;
+        return has(v, CFG);
     }
     is_transmit(c, n)
 }

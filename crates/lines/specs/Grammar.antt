@@ -3,7 +3,7 @@
 use Prim.Native.Nat.{ℕ, _+_, _-_, _*_}
 use mathlib.Core.List.{List, [], _∷_}
 use mathlib.Core.Bool.{Bool, true, false}
-use lib.ListN.{length, getD, drop, set, replicate}
+use lib.ListN.{length, getD, take, drop, set, replicate}
 use lib.Dec.{ltb, leb, eqb}
 use Rattle.masks.specs.Pick.{pick}
 use Rattle.rules.specs.declared.SyncKind.the-variants.{Normal, Alarm}
@@ -11,6 +11,7 @@ use Rattle.rules.specs.declared.Fault.the-variants.{Early, Lost, Illegal, Misma
 use Rattle.controller.specs.declared.Call.the-variants.{Reset, Read, Write, Sync, SyncDue, Slot, Frame, Fault, Timeout}
 use Rattle.lines.specs.declared.Line.{Line}
 use Rattle.lines.specs.declared.Line.the-variants.{Step, Unread}
+use Rattle.lines.specs.declared.FrameBytes.{FrameBytes}
 use Rattle.lines.specs.declared.Parsed.{Parsed}
 
 -- ---- digits
@@ -22,6 +23,11 @@ nibbleOf b = pick (ltb b 48) 16 (pick (leb b 57) (b - 48) (pick (ltb b 65) 16 (p
 -- the value of two digits, 256 for any other two bytes
 unfoldable pub byteOf : ℕ → ℕ → ℕ
 byteOf high low = pick (ltb 15 (nibbleOf high)) 256 (pick (ltb 15 (nibbleOf low)) 256 (nibbleOf high * 16 + nibbleOf low))
+
+-- ---- the bytes of a frame by value
+
+abbrev pub bytesIn : FrameBytes → List ℕ
+bytesIn f = take (f .size) (f .bytes)
 
 -- ---- lines without a frame, by their length; 9 is the tab
 
@@ -85,11 +91,11 @@ decodeFrom good bytes i (h ∷ l ∷ ds) =
     pick (ltb 255 (byteOf h l)) (plainOf Unread) (decodeFrom good (set bytes i (byteOf h l)) (i + 1) ds)
 
 -- the verdict G or B
-unfoldable pub frameOf : ℕ → List ℕ → Parsed
-frameOf verdict ds =
+unfoldable pub frameLine : ℕ → List ℕ → Parsed
+frameLine verdict ds =
     pick (eqb verdict 71) (decodeFrom true (replicate 30 0) 0 ds) (pick (eqb verdict 66) (decodeFrom false (replicate 30 0) 0 ds) (plainOf Unread))
 
 -- ---- the step that a line is
 
 unfoldable pub lineOf : List ℕ → Parsed
-lineOf s = pick (ltb 64 (length s)) (plainOf Unread) (pick (isFrame s) (frameOf (getD s 2 0) (drop 4 s)) (plainOf (shortOf s)))
+lineOf s = pick (ltb 64 (length s)) (plainOf Unread) (pick (isFrame s) (frameLine (getD s 2 0) (drop 4 s)) (plainOf (shortOf s)))

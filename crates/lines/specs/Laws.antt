@@ -7,10 +7,10 @@ use mathlib.Core.Bool.{Bool, true, false, false≢true}
 use borrow.Author.Tests.{lt-ltb, ltb-false}
 use lib.ListN.{length, drop, getD, set, replicate, length-drop}
 use lib.Dec.{ltb, eqb}
-use Rattle.masks.specs.Pick.{pick-keeps, pick-true}
+use Rattle.masks.specs.PickLaws.{pick-keeps, pick-true}
 use Rattle.lines.specs.declared.Line.the-variants.{Unread}
 use Rattle.lines.specs.declared.Parsed.{Parsed}
-use Rattle.lines.specs.Grammar.{lineOf, frameOf, isFrame, decodeFrom, plainOf, byteOf}
+use Rattle.lines.specs.Grammar.{lineOf, frameLine, isFrame, decodeFrom, plainOf, byteOf}
 
 -- "one over 64 bytes without its LF, is 'unread'"
 pub over-unread : (s : List ℕ) → 64 < length s → lineOf s ≡ plainOf Unread
@@ -35,8 +35,8 @@ decoded-fits g (x ∷ y ∷ ds) bytes i h =
     let k : (i + 1) + (i + 1) + length ds ≤ 60 = omega arith in
     pick-keeps Fits (ltb 255 (byteOf x y)) (λ e. omega arith) (λ e. decoded-fits g ds (set bytes i (byteOf x y)) (i + 1) k)
 
-frame-fits : (v : ℕ) (ds : List ℕ) → length ds ≤ 60 → Fits (frameOf v ds)
-unfolding frameOf
+frame-fits : (v : ℕ) (ds : List ℕ) → length ds ≤ 60 → Fits (frameLine v ds)
+unfolding frameLine
 frame-fits v ds h =
     let k : 0 + 0 + length ds ≤ 60 = omega arith in
     pick-keeps Fits (eqb v 71) (λ e. decoded-fits true ds (replicate 30 0) 0 k)

@@ -2,15 +2,27 @@
 ghost use mathlib.Core.Path.{_≡_};
 ghost use Prim.Native.Nat.{_≤_};
 ghost use lib.ListN.{length, replicate};
-ghost use Rattle.lines.specs.Grammar.{nibbleOf, byteOf, plainOf, oneOf, syncOf, faultOf, threeOf, fourOf, sevenOf, shortOf, isFrame, decodeFrom, frameOf, lineOf};
+ghost use Rattle.lines.specs.Grammar.{bytesIn, nibbleOf, byteOf, plainOf, oneOf, syncOf, faultOf, threeOf, fourOf, sevenOf, shortOf, isFrame, decodeFrom, frameLine, lineOf};
 use controller::Call;
-use controller::FrameBytes;
 use rules::Fault;
 use rules::SyncKind;
 
 pub enum Line {
     Step(Call),
     Unread,
+}
+
+// A frame's bytes as a value: the first size of them, all thirty where size is larger. No line has more.
+pub struct FrameBytes {
+    pub bytes: [u8; 30],
+    pub size: u8,
+}
+
+// How many bytes the frame has.
+pub fn frame_size(f: FrameBytes) -> usize
+    ensures { λ r. ⌜ r ≡ length (bytesIn f) ⌝ }
+{
+    if f.size < 30 { f.size as usize } else { 30 }
 }
 
 // A line, and the bytes of its frame beside it: none where it is no frame.
@@ -243,7 +255,7 @@ fn decode(good: bool, s: &[u8]) -> Parsed
 // A frame's line behind its verdict.
 fn frame(verdict: u8, s: &[u8]) -> Parsed
     requires { ⌜ length (now s) ≤ 60 ⌝ }
-    ensures { λ r. ⌜ r ≡ frameOf verdict (now (s .entry)) ⌝ }
+    ensures { λ r. ⌜ r ≡ frameLine verdict (now (s .entry)) ⌝ }
 {
     if verdict == b'G' {
         return decode(true, s);

@@ -1,9 +1,10 @@
-// The locks of one kind of buffer. A number from 16 on names no buffer.
+// The locks of one kind of buffer. A number from NONE on names no buffer.
 ghost use mathlib.Core.Path.{_≡_};
 ghost use Rattle.masks.specs.Bits.{maskOf};
 ghost use Rattle.locks.specs.Pair.{hasHolder, hasContender, inPair, isFull, takeLock, releaseLock};
+use masks::NONE;
 
-// Holder and contender, by buffer number; 16 stands for none.
+// Holder and contender, by buffer number.
 #[repr(C)]
 pub struct Locks {
     pub holder: u8,
@@ -15,24 +16,24 @@ impl Locks {
     pub fn has_holder(self) -> bool
         ensures { λ r. ⌜ r ≡ hasHolder self ⌝ }
     {
-        self.holder < 16
+        self.holder < NONE
     }
 
     // The kind has a contender.
     pub fn has_contender(self) -> bool
         ensures { λ r. ⌜ r ≡ hasContender self ⌝ }
     {
-        self.contender < 16
+        self.contender < NONE
     }
 
     // The kind has holder and contender: no further lock is taken.
     pub fn is_full(self) -> bool
         ensures { λ r. ⌜ r ≡ isFull self ⌝ }
     {
-        self.holder < 16 && self.contender < 16
+        self.holder < NONE && self.contender < NONE
     }
 
-    // Buffer n is locked: it is holder or contender. The numbers are compared as they stand, so 16 is one of the two
+    // Buffer n is locked: it is holder or contender. The numbers are compared as they stand, so NONE is one of the two
     // wherever one is missing.
     pub fn holds(self, n: u8) -> bool
         ensures { λ r. ⌜ r ≡ inPair self n ⌝ }
@@ -45,7 +46,7 @@ impl Locks {
     pub fn locked_mask(self) -> u16
         ensures { λ r. ⌜ r ≡ maskOf (inPair self) ⌝ }
     {
-        if 16 <= self.holder && 16 <= self.contender {
+        if NONE <= self.holder && NONE <= self.contender {
             return 0;
         }
         masks::one(self.holder) | masks::one(self.contender)
@@ -57,7 +58,7 @@ impl Locks {
         ensures { λ r. ⌜ r ≡ takeLock self n ⌝ }
     {
         let mut next = self;
-        if self.holder < 16 {
+        if self.holder < NONE {
             next.contender = n;
         } else {
             next.holder = n;
@@ -73,9 +74,9 @@ impl Locks {
         let mut next = self;
         if n == self.holder {
             next.holder = self.contender;
-            next.contender = 16;
+            next.contender = NONE;
         } else if n == self.contender {
-            next.contender = 16;
+            next.contender = NONE;
         }
         next
     }

@@ -1,9 +1,12 @@
 // Masks of the sixteen buffers: bit n stands for buffer n.
-// Every function answers for every number: one from 16 on names no buffer.
+// Every function answers for every number: one from NONE on names no buffer.
 ghost use mathlib.Core.Path.{_≡_};
 ghost use mathlib.Core.Bool.{_||_, _&&_, not};
 ghost use lib.Dec.{eqb, ltb};
 ghost use Rattle.masks.specs.Bits.{bitOf, maskOf, putBit, lowest, highest, someOf};
+
+// The number that stands for no buffer.
+pub const NONE: u8 = 16;
 
 // Buffer n is in the mask.
 pub fn test(m: u16, n: u8) -> bool
@@ -54,7 +57,7 @@ pub fn any(m: u16) -> bool
     m != 0
 }
 
-// The lowest buffer of the mask, or 16.
+// The lowest buffer of the mask, or NONE.
 pub fn lowest_of(m: u16) -> u8
     ensures { λ r. ⌜ r ≡ lowest (bitOf m) 0 16 ⌝ }
 {
@@ -65,10 +68,10 @@ pub fn lowest_of(m: u16) -> u8
         }
         i += 1;
     }
-    16
+    NONE
 }
 
-// The highest buffer of the mask, or 16.
+// The highest buffer of the mask, or NONE.
 pub fn highest_of(m: u16) -> u8
     ensures { λ r. ⌜ r ≡ highest (bitOf m) 16 ⌝ }
 {
@@ -79,5 +82,5 @@ pub fn highest_of(m: u16) -> u8
             return k;
         }
     }
-    16
+    NONE
 }

@@ -2,7 +2,7 @@
 use Prim.Native.Nat.{ℕ}
 use mathlib.Core.Bool.{Bool, true, false}
 use mathlib.Core.Path.{_≡_, sym, ap₂}
-use Rattle.masks.specs.Pick.{pick-true, pick-false}
+use Rattle.masks.specs.PickLaws.{pick-true, pick-false}
 use Rattle.rules.specs.declared.Mode.{Mode}
 use Rattle.rules.specs.Registers.{has, MASTER, ALARM, WPULSE, SSWAI}
 use Rattle.rules.specs.Modes.{writtenMode}

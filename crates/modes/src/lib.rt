@@ -13,6 +13,7 @@ use rules::bits::MASTER;
 use rules::bits::SLPRQ;
 use rules::bits::SSWAI;
 use rules::bits::WPULSE;
+use rules::bits::has;
 
 pub fn with_mode(c: Control, m: Mode) -> Control
     ensures { λ r. ⌜ r ≡ withMode c m ⌝ }
@@ -60,7 +61,7 @@ fn left_mode(m: Mode) -> Mode
     next
 }
 
-// SLPRQ and SLPAK.
+// SLPRQ and SLPAK set or cleared together.
 fn with_sleep(m: Mode, x: bool) -> Mode
     ensures { λ r. ⌜ r ≡ withSleep m x ⌝ }
 {
@@ -75,11 +76,11 @@ fn written_mode(m: Mode, v: u8) -> Mode
     ensures { λ r. ⌜ r ≡ writtenMode m v ⌝ }
 {
     let mut next = m;
-    next.alarm = v / ALARM % 2 == 1;
-    next.sswai = v / SSWAI % 2 == 1;
+    next.alarm = has(v, ALARM);
+    next.sswai = has(v, SSWAI);
     if m.init {
-        next.master = v / MASTER % 2 == 1;
-        next.wpulse = v / WPULSE % 2 == 1;
+        next.master = has(v, MASTER);
+        next.wpulse = has(v, WPULSE);
     }
     next
 }
@@ -133,7 +134,7 @@ pub fn wake(c: Control) -> Control
     next
 }
 
-// SLPRQ written in normal operation.
+// SLPRQ written in normal operation: 1 sleeps if BFEN is set, 0 wakes a sleeping module, without WAKEIF.
 pub fn write_sleep(c: Control, on: bool) -> Control
     ensures { λ r. ⌜ r ≡ writeSleep c on ⌝ }
 {
@@ -156,7 +157,7 @@ pub fn write_mcr(c: Control, v: u8) -> Control
 {
     let m = c.mode;
     let next = with_mode(c, written_mode(m, v));
-    let request = v / INITRQ % 2 == 1;
+    let request = has(v, INITRQ);
     if m.init {
         if request {
             return next;
@@ -166,5 +167,5 @@ pub fn write_mcr(c: Control, v: u8) -> Control
     if request {
         return enter(next);
     }
-    write_sleep(next, v / SLPRQ % 2 == 1)
+    write_sleep(next, has(v, SLPRQ))
 }

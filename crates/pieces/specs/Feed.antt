@@ -7,7 +7,7 @@ use lib.ListN.{length, take, set, replicate}
 use lib.Dec.{ltb, leb, eqb}
 use Rattle.masks.specs.Pick.{pick}
 use Rattle.pieces.specs.declared.Held.{Held}
-use Rattle.pieces.specs.Lines.{Line, linesOf}
+use Rattle.pieces.specs.Lines.{Line, textLines}
 
 -- ---- the line that is not ended yet
 
@@ -55,9 +55,9 @@ module _ {S : Type 0} (act : S → ℕ → List ℕ → S) (show : S → ℕ →
   byteO f b = pick (eqb b 10 && isRead (f .number)) (show (f .state) (f .number) true (lineIn (f .held))) []
 
   -- the same of a piece
-  unfoldable pub endOf : Feed S → List ℕ → Feed S
-  endOf f [] = f
-  endOf f (b ∷ bs) = endOf (byteS f b) bs
+  unfoldable pub feedEnd : Feed S → List ℕ → Feed S
+  feedEnd f [] = f
+  feedEnd f (b ∷ bs) = feedEnd (byteS f b) bs
 
   unfoldable pub outOf : Feed S → List ℕ → List ℕ
   outOf f [] = []
@@ -73,4 +73,13 @@ module _ {S : Type 0} (act : S → ℕ → List ℕ → S) (show : S → ℕ →
   runFrom s n (l ∷ ls) = show s n (l .ended) (l .text) ++ runFrom (act s n (l .text)) (n + 1) ls
 
   unfoldable pub wholeOf : S → List ℕ → List ℕ
-  wholeOf s t = runFrom s 1 (take 999999 (linesOf t))
+  wholeOf s t = runFrom s 1 (take 999999 (textLines t))
+
+  -- ---- a text in pieces: what a program writes that feeds them one by one and then ends
+  unfoldable pub streamOf : Feed S → List (List ℕ) → List ℕ
+  streamOf f [] = lastOf f
+  streamOf f (c ∷ cs) = outOf f c ++ streamOf (feedEnd f c) cs
+
+  -- what is written for a text that is fed whole, its last line included
+  abbrev pub fedWhole : Feed S → List ℕ → List ℕ
+  fedWhole f t = streamOf f (t ∷ [])

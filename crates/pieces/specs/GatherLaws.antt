@@ -7,12 +7,13 @@ use mathlib.Core.Bool.{Bool, true, false}
 use borrow.Author.Tests.{lt-ltb, le-ltb, eqb-true, eq-eqb, ne-eqb}
 use lib.ListN.{length, take, set, getD}
 use lib.Dec.{eqb}
-use Rattle.masks.specs.Pick.{pick, pick-true, pick-false, pick-keeps, by-test}
+use Rattle.masks.specs.Pick.{pick}
+use Rattle.masks.specs.PickLaws.{pick-true, pick-false, pick-keeps, by-test}
 use Rattle.pieces.specs.declared.Held.{Held}
 use Rattle.pieces.specs.declared.Gathered.{Gathered}
-use Rattle.pieces.specs.Feed.{Feed, pushOf, lineIn, isRead, endLine, byteS, byteO, endOf, outOf}
+use Rattle.pieces.specs.Feed.{Feed, pushOf, lineIn, isRead, endLine, byteS, byteO, feedEnd, outOf}
 use Rattle.pieces.specs.FeedLaws.{endOf-more, outOf-more}
-use Rattle.pieces.specs.Gather.{gatherFrom, gatherOf}
+use Rattle.pieces.specs.CodeGather.{gatherFrom, gatherOf}
 
 -- ---- one byte at a time, up to index stop
 
@@ -113,25 +114,25 @@ module _ {S : Type 0} (act : S → ℕ → List ℕ → S) (show : S → ℕ →
   byte-silent f b e = simp (e, pick-false)
 
   push-end : (f : Feed S) (s : S) (h : Held) (n : ℕ) (t : List ℕ) (i : ℕ) → i < length t → eqb (getD t i 0) 10 ≡ false
-      → endOf act show f (take i t) ≡ record { state = s; held = h; number = n }
-      → endOf act show f (take (i + 1) t) ≡ record { state = s; held = pushOf h (getD t i 0); number = n }
+      → feedEnd act show f (take i t) ≡ record { state = s; held = h; number = n }
+      → feedEnd act show f (take (i + 1) t) ≡ record { state = s; held = pushOf h (getD t i 0); number = n }
   push-end f s h n t i l q e =
       endOf-more act show f t i l ∙ ap (λ (x : Feed S). byteS act show x (getD t i 0)) e ∙ byte-pushes s h n (getD t i 0) q
 
   push-out : (f : Feed S) (t : List ℕ) (i : ℕ) → i < length t → eqb (getD t i 0) 10 ≡ false → outOf act show f (take (i + 1) t) ≡ outOf act show f (take i t)
   push-out f t i l q =
-      outOf-more act show f t i l ∙ ap (λ (x : List ℕ). outOf act show f (take i t) ++ x) (byte-silent (endOf act show f (take i t)) (getD t i 0) q)
+      outOf-more act show f t i l ∙ ap (λ (x : List ℕ). outOf act show f (take i t) ++ x) (byte-silent (feedEnd act show f (take i t)) (getD t i 0) q)
       ∙ append-nil (outOf act show f (take i t))
 
   -- ---- gathering is feeding, and nothing is written for it
 
   end-from : (k : ℕ) (f : Feed S) (s : S) (h : Held) (n : ℕ) (t : List ℕ) (i : ℕ) → i + k ≤ max i (length t)
-      → endOf act show f (take i t) ≡ record { state = s; held = h; number = n }
-      → endOf act show f (take (gatherFrom h t i k .at) t) ≡ record { state = s; held = gatherFrom h t i k .held; number = n }
+      → feedEnd act show f (take i t) ≡ record { state = s; held = h; number = n }
+      → feedEnd act show f (take (gatherFrom h t i k .at) t) ≡ record { state = s; held = gatherFrom h t i k .held; number = n }
   unfolding gatherFrom
   end-from zero f s h n t i l e = e
   end-from (suc k) f s h n t i l e =
-      pick-keeps (λ (g : Gathered). endOf act show f (take (g .at) t) ≡ record { state = s; held = g .held; number = n }) (eqb (getD t i 0) 10)
+      pick-keeps (λ (g : Gathered). feedEnd act show f (take (g .at) t) ≡ record { state = s; held = g .held; number = n }) (eqb (getD t i 0) 10)
       (λ q. e)
       (λ q. end-from k f s (pushOf h (getD t i 0)) n t (i + 1) (omega arith) (push-end f s h n t i (omega arith) q e))
 
@@ -145,8 +146,8 @@ module _ {S : Type 0} (act : S → ℕ → List ℕ → S) (show : S → ℕ →
       (λ q. out-from k f (pushOf h (getD t i 0)) t (i + 1) (omega arith) ∙ push-out f t i (omega arith) q)
 
   pub gather-end : (f : Feed S) (s : S) (h : Held) (n : ℕ) (t : List ℕ) (from to : ℕ) (g : Gathered) → g ≡ gatherOf h t from to
-      → endOf act show f (take from t) ≡ record { state = s; held = h; number = n }
-      → endOf act show f (take (g .at) t) ≡ record { state = s; held = g .held; number = n }
+      → feedEnd act show f (take from t) ≡ record { state = s; held = h; number = n }
+      → feedEnd act show f (take (g .at) t) ≡ record { state = s; held = g .held; number = n }
   unfolding gatherOf
   gather-end f s h n t from to g q e = rw q (end-from (min to (length t) - from) f s h n t from (omega arith) e)
 
@@ -157,11 +158,11 @@ module _ {S : Type 0} (act : S → ℕ → List ℕ → S) (show : S → ℕ →
 
   -- ---- an LF ends the line
 
-  pub lf-end : (f m : Feed S) (t : List ℕ) (i : ℕ) → i < length t → getD t i 0 ≡ 10 → endOf act show f (take i t) ≡ m → endOf act show f (take (i + 1) t) ≡ endLine act show m
+  pub lf-end : (f m : Feed S) (t : List ℕ) (i : ℕ) → i < length t → getD t i 0 ≡ 10 → feedEnd act show f (take i t) ≡ m → feedEnd act show f (take (i + 1) t) ≡ endLine act show m
   unfolding byteS
   lf-end f m t i l k e = endOf-more act show f t i l ∙ ap (λ (x : Feed S). byteS act show x (getD t i 0)) e ∙ pick-true _ _ _ (eq-eqb (getD t i 0) 10 k)
 
-  pub lf-out : (f m : Feed S) (t : List ℕ) (i : ℕ) → i < length t → getD t i 0 ≡ 10 → endOf act show f (take i t) ≡ m
+  pub lf-out : (f m : Feed S) (t : List ℕ) (i : ℕ) → i < length t → getD t i 0 ≡ 10 → feedEnd act show f (take i t) ≡ m
       → outOf act show f (take (i + 1) t) ≡ outOf act show f (take i t) ++ pick (isRead (m .number)) (show (m .state) (m .number) true (lineIn (m .held))) []
   unfolding byteO
   lf-out f m t i l k e =

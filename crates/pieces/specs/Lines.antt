@@ -20,5 +20,5 @@ unfoldable pub linesFrom : List ℕ → List ℕ → List Line
 linesFrom p [] = restOf p
 linesFrom p (b ∷ bs) = pick (eqb b 10) (record { text = p; ended = true } ∷ linesFrom [] bs) (linesFrom (p ++ (b ∷ [])) bs)
 
-unfoldable pub linesOf : List ℕ → List Line
-linesOf t = linesFrom [] t
+unfoldable pub textLines : List ℕ → List Line
+textLines t = linesFrom [] t

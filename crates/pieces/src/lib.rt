@@ -2,7 +2,7 @@
 ghost use mathlib.Core.Path.{_≡_};
 ghost use Prim.Native.Nat.{min};
 ghost use Rattle.pieces.specs.Feed.{noneHeld, numberAfter, isRead};
-ghost use Rattle.pieces.specs.Gather.{gatherOf};
+ghost use Rattle.pieces.specs.CodeGather.{gatherOf};
 
 // The bytes of a line that is not ended yet: the first len of them. A length of 65 stands for any above 64.
 pub struct Held {

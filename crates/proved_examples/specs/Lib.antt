@@ -1,1 +1,2 @@
+-- final statements
 pub mod Examples

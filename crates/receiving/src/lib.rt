@@ -2,7 +2,8 @@
 // The functions take the fourteen bytes by value and return them so; each answers for every argument.
 ghost use mathlib.Core.Path.{_≡_};
 ghost use lib.ListN.{getD, drop};
-ghost use Rattle.contents.specs.Bytes.{wellSized, storeFrame};
+ghost use Rattle.contents.specs.Code.{wellSized};
+ghost use Rattle.contents.specs.Bytes.{storeFrame};
 
 // The contents after a frame is stored whose parts are given: its identifier, its length cut, and that many of its data bytes,
 // or all of them where it has fewer; later bytes stay.

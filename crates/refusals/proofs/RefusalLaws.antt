@@ -8,17 +8,18 @@ use borrow.Author.Tests.{ne-eqb, lt-ltb, le-ltb, le-leb, lt-leb, ltb-true, ltb-f
 use native.Mathlib.Nat.{le-refl}
 use lib.Bits.{bitAnd, bitOr}
 use lib.Dec.{eqb, ltb, leb}
-use Rattle.masks.specs.Pick.{pick, pick-false, by-test}
+use Rattle.masks.specs.Pick.{pick}
+use Rattle.masks.specs.PickLaws.{pick-false, by-test}
 use Rattle.masks.specs.Bits.{bitOf, maskOf, someOf}
 use Rattle.masks.specs.Laws.{own, and-by, or-by, not-by-mask}
-use Rattle.masks.specs.Search.{some-mask, some-ext}
+use Rattle.masks.specs.SearchLaws.{some-mask, some-ext}
 use Rattle.locks.specs.Pair.{isFull}
 use Rattle.rules.specs.declared.Control.{Control}
 use Rattle.rules.specs.Registers.{between, has, LOCK}
 use Rattle.rules.specs.Kinds.{isTransmit, isLocked, isOldest}
 use Rattle.rules.specs.Writes.{cfgAfter}
-use Rattle.rules.specs.Refusals.{refuses1, refuses2, refuses3, onlyInInit, refuses4, refuses5, refuses6, movedByFsiz, movedByCfg, refuses7, refuses8, newLock, notOldest, refuses9, noLockLeft, refuses10, firstOf, readRefusal, writeRefusal, lateRefusal}
-use Rattle.refusals.specs.Code.{lockRefusal, controlRefusal, lowRefusal}
+use Rattle.rules.specs.Refusals.{refuses1, refuses2, refuses3, onlyInInit, refuses4, refuses5, refuses6, movedByFsiz, movedByCfg, refuses7, refuses8, newLock, notOldest, refuses9, noLockLeft, refuses10, firstOf, readRefusal, writeRefusal}
+use Rattle.refusals.specs.Code.{lockRefusal, controlRefusal, lowRefusal, lateRefusal}
 
 -- ---- where the two ways of a test join
 

@@ -14,9 +14,11 @@ use kinds::is_locked;
 use kinds::is_oldest;
 use kinds::is_transmit;
 use kinds::locked_mask;
+use masks::NONE;
 use rules::Control;
 use rules::bits::INITRQ;
 use rules::bits::LOCK;
+use rules::bits::has;
 
 fn between(low: u8, a: u8, high: u8) -> bool
     ensures { λ r. ⌜ r ≡ between low a high ⌝ }
@@ -92,7 +94,7 @@ fn refuses7(c: Control, a: u8, v: u8) -> bool
 fn refuses8(c: Control, a: u8, v: u8) -> bool
     ensures { λ r. ⌜ r ≡ refuses8 c a v ⌝ }
 {
-    a == 0x00 && c.mode.init && v / INITRQ % 2 != 1 && !is_lawful(c)
+    a == 0x00 && c.mode.init && !has(v, INITRQ) && !is_lawful(c)
 }
 
 // Where buffer n, which is not locked, is locked, and its CFG is then cfg: 9 for a FIFO buffer that isn't the oldest entry, 10
@@ -120,7 +122,7 @@ fn control_refusal(c: Control, n: u8, v: u8) -> u8
     if is_locked(c, n) {
         return if cfg != is_transmit(c, n) { 7 } else { 0 };
     }
-    if v / LOCK % 2 == 1 {
+    if has(v, LOCK) {
         return lock_refusal(c, n, cfg);
     }
     0
@@ -155,11 +157,11 @@ fn low_refusal(c: Control, a: u8, v: u8) -> u8
     0
 }
 
-// The refusal of a write of buffer n's control register, 0 for none. From 16 on there is none: 1.
+// The refusal of a write of buffer n's control register, 0 for none. From NONE on there is no such register: 1.
 pub fn control_write_refusal(c: Control, n: u8, v: u8) -> u8
     ensures { λ r. ⌜ r ≡ writeRefusal c (0x50 + n) v ⌝ }
 {
-    if 15 < n {
+    if NONE <= n {
         return 1;
     }
     if c.mode.slpak {

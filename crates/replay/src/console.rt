@@ -3,18 +3,18 @@ use libc::STDERR_FILENO;
 use libc::STDIN_FILENO;
 use libc::STDOUT_FILENO;
 
-pub fn say(text: &[u8]) {
+pub(crate) fn say(text: &[u8]) {
     io::write_all(STDERR_FILENO, text);
 }
 
 // What is counted, and the count.
-pub fn tell(text: &[u8], n: u32) {
+pub(crate) fn tell(text: &[u8], n: u32) {
     say(text);
     io::print_decimal(STDERR_FILENO, n as u64);
 }
 
 // The program was asked for help.
-pub fn wants_help() -> bool {
+pub(crate) fn wants_help() -> bool {
     if os::arg_count() < 2 {
         return false;
     }
@@ -33,7 +33,7 @@ pub fn wants_help() -> bool {
 }
 
 // The file that the first argument names, standard input where there is none, or -1 with a message.
-pub fn open_input() -> i32 {
+pub(crate) fn open_input() -> i32 {
     if os::arg_count() < 2 {
         return STDIN_FILENO;
     }
@@ -55,7 +55,7 @@ pub fn open_input() -> i32 {
 }
 
 // Writes to standard output, or says what failed.
-pub fn put(text: &[u8]) -> bool {
+pub(crate) fn put(text: &[u8]) -> bool {
     let whole = io::write_all(STDOUT_FILENO, text);
     if !whole {
         os::fail(b"hevrukan: writing to standard output");

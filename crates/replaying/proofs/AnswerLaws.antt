@@ -1,57 +1,64 @@
 -- The answers that a match on one variant leaves.
-use Prim.Native.Nat.{ℕ}
-use mathlib.Core.Path.{_≡_, refl, sym}
+use Prim.Native.Nat.{ℕ, zero, suc}
+use mathlib.Core.Path.{_≡_, refl, sym, ap, _∙_}
+use mathlib.Core.Bool.{Bool, true, false, not}
 use mathlib.Core.List.{List, [], _∷_}
+use lib.Dec.{T, eqb}
+use borrow.Author.Tests.{eqb-true}
 use types.Run.{OneOf, miss}
+use mir.Val.{hasKey}
 use denote.Enum.Declared.{tagOf}
 use Rattle.masks.specs.Pick.{pick}
+use Rattle.masks.specs.PickLaws.{by-test}
 use Rattle.rules.proofs.Answer.{the-type as the-answer}
 use Rattle.rules.specs.declared.Answer.{Answer}
 use Rattle.rules.specs.declared.Answer.the-variants.{Ok, Value, Stored, Queued, HeldOff, HeldBack, Sent, Pulse, Refused, Overrun, Unmatched, BadFrame, Ignored, Woke, NotSent}
+use Rattle.rules.specs.AnswerLaws.{WORDS}
+use Rattle.rules.specs.Answers.{wordOf, SENT, REFUSED}
 use Rattle.replaying.specs.declared.Tally.{Tally}
-use Rattle.replaying.specs.Replay.{isRefused}
-use Rattle.replaying.specs.Sent.{sentSize}
-use Rattle.replaying.specs.Turn.{countedOf}
+use Rattle.replaying.specs.SentLaws.{sentSize, size-unsent}
+use Rattle.replaying.specs.CodeTurn.{countedOf}
 
-abbrev allButSent : List ℕ
-allButSent = 0 ∷ 1 ∷ 2 ∷ 3 ∷ 4 ∷ 5 ∷ 7 ∷ 8 ∷ 9 ∷ 10 ∷ 11 ∷ 12 ∷ 13 ∷ 14 ∷ []
+-- the words are numbered as the variants are declared
+tag-word : (a : Answer) → tagOf the-answer a ≡ wordOf a
+tag-word Ok = refl
+tag-word (Value v) = refl
+tag-word (Stored n) = refl
+tag-word (Queued n) = refl
+tag-word (HeldOff n) = refl
+tag-word (HeldBack n) = refl
+tag-word (Sent k) = refl
+tag-word (Pulse k) = refl
+tag-word (Refused r) = refl
+tag-word Overrun = refl
+tag-word Unmatched = refl
+tag-word BadFrame = refl
+tag-word Ignored = refl
+tag-word Woke = refl
+tag-word NotSent = refl
 
-abbrev allButRefused : List ℕ
-allButRefused = 0 ∷ 1 ∷ 2 ∷ 3 ∷ 4 ∷ 5 ∷ 6 ∷ 7 ∷ 9 ∷ 10 ∷ 11 ∷ 12 ∷ 13 ∷ 14 ∷ []
+-- an answer whose variant is one of ks has no word outside of ks
+other-word : (ks : List ℕ) (w : ℕ) → T (not (hasKey ks w)) → (a : Answer) → OneOf ks (tagOf the-answer a) → eqb (wordOf a) w ≡ false
+other-word ks w m a h =
+    by-test (eqb (wordOf a) w) (λ e. absurd (miss ks w m (rw (sym (tag-word a ∙ eqb-true (wordOf a) w e)) h))) (λ e. e)
+
+-- the n numbers from k on but w
+abbrev skipping : Bool → ℕ → List ℕ → List ℕ
+skipping true k ks = ks
+skipping false k ks = k ∷ ks
+
+abbrev from : ℕ → ℕ → ℕ → List ℕ
+from w k zero = []
+from w k (suc n) = skipping (eqb k w) k (from w (suc k) n)
+
+abbrev allBut : ℕ → List ℕ
+allBut w = from w 0 WORDS
 
 -- no other answer shows a frame
-pub other-size : (a : Answer) (n : ℕ) → OneOf allButSent (tagOf the-answer a) → 0 ≡ sentSize a n
-other-size Ok n h = refl
-other-size (Value v) n h = refl
-other-size (Stored m) n h = refl
-other-size (Queued m) n h = refl
-other-size (HeldOff m) n h = refl
-other-size (HeldBack m) n h = refl
-other-size (Sent k) n h = absurd (miss allButSent 6 tt h)
-other-size (Pulse k) n h = refl
-other-size (Refused r) n h = refl
-other-size Overrun n h = refl
-other-size Unmatched n h = refl
-other-size BadFrame n h = refl
-other-size Ignored n h = refl
-other-size Woke n h = refl
-other-size NotSent n h = refl
+pub other-size : (a : Answer) (n : ℕ) → OneOf (allBut SENT) (tagOf the-answer a) → 0 ≡ sentSize a n
+other-size a n h = size-unsent a n (other-word (allBut SENT) SENT tt a h)
 
 -- no other answer is counted
-pub other-counted : (k : Tally) (a : Answer) → OneOf allButRefused (tagOf the-answer a) → k ≡ countedOf k a
+pub other-counted : (k : Tally) (a : Answer) → OneOf (allBut REFUSED) (tagOf the-answer a) → k ≡ countedOf k a
 unfolding countedOf pick
-other-counted k Ok h = refl
-other-counted k (Value v) h = refl
-other-counted k (Stored n) h = refl
-other-counted k (Queued n) h = refl
-other-counted k (HeldOff n) h = refl
-other-counted k (HeldBack n) h = refl
-other-counted k (Sent j) h = refl
-other-counted k (Pulse j) h = refl
-other-counted k (Refused r) h = absurd (miss allButRefused 8 tt h)
-other-counted k Overrun h = refl
-other-counted k Unmatched h = refl
-other-counted k BadFrame h = refl
-other-counted k Ignored h = refl
-other-counted k Woke h = refl
-other-counted k NotSent h = refl
+other-counted k a h = rw (other-word (allBut REFUSED) REFUSED tt a h) refl

@@ -1,3 +1,4 @@
 pub mod AnswerLaws
 pub mod Again
 pub mod Local
+pub mod Bytes

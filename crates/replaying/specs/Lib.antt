@@ -1,10 +1,14 @@
+-- definitions
 pub mod Replay
-pub mod Whole
 pub mod Session
-pub mod Sent
-pub mod Turn
+-- final statements
+pub mod Runs
+-- nothing to believe: laws, and the code's own definitions
+pub mod WholeLaws
+pub mod RunLaws
+pub mod SessionLaws
+pub mod CodeTurn
+pub mod TurnLaws
 pub mod OpenLaws
 pub mod SeekLaws
-pub mod TurnLaws
-pub mod SessionLaws
-pub mod Runs
+pub mod SentLaws

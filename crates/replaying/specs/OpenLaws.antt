@@ -6,32 +6,33 @@ use mathlib.Core.Bool.{true, false, false≢true}
 use mathlib.Core.List.{List, [], _++_}
 use lib.ListN.{length, take, replicate}
 use borrow.Author.Tests.{lt-ltb, le-ltb}
-use Rattle.masks.specs.Pick.{pick, pick-true, pick-false}
+use Rattle.masks.specs.Pick.{pick}
+use Rattle.masks.specs.PickLaws.{pick-true, pick-false}
 use Rattle.rules.specs.declared.Answer.{Answer}
 use Rattle.rules.specs.Answers.{Detail, wordOf, detailOf}
 use Rattle.rules.specs.Flags.{linesOf}
 use Rattle.controller.specs.declared.Controller.{Controller}
 use Rattle.controller.specs.Carry.{Outcome}
 use Rattle.controller.specs.Session.{stepOf}
-use Rattle.controller.specs.Code.{stepFor, bytesIn}
+use Rattle.controller.specs.Calls.{stepFor}
 use Rattle.lines.specs.declared.Line.{Line}
 use Rattle.lines.specs.declared.Line.the-variants.{Unread}
 use Rattle.lines.specs.declared.Parsed.{Parsed}
-use Rattle.lines.specs.Grammar.{plainOf, lineOf}
+use Rattle.lines.specs.Grammar.{bytesIn, plainOf, lineOf}
 use Rattle.lines.specs.Laws.{over-unread}
 use Rattle.report.specs.Text.{Put, fitting, rowOf, unreadRow}
 use Rattle.report.specs.Laws.{none, then, kept, fits, length-row, length-unread, frame-sent}
 use Rattle.pieces.specs.declared.Held.{Held}
 use Rattle.pieces.specs.declared.Gathered.{Gathered}
 use Rattle.pieces.specs.Feed.{Feed, noneHeld, lineIn, numberAfter, isRead, endLine, outOf}
-use Rattle.pieces.specs.Gather.{gatherOf}
+use Rattle.pieces.specs.CodeGather.{gatherOf}
 use Rattle.pieces.specs.GatherLaws.{stops, stops-within, gather-end, gather-out, lf-end, lf-out}
 use Rattle.replaying.specs.declared.Player.{Player}
 use Rattle.replaying.specs.declared.Tally.{Tally}
 use Rattle.replaying.specs.declared.Turn.{Turn}
 use Rattle.replaying.specs.Replay.{stepIn, playedBy, stepRow, rowBy, play, showRow}
-use Rattle.replaying.specs.Sent.{sentSize, detail-shown, sent-fits}
-use Rattle.replaying.specs.Turn.{reaches, passes, unreadOf, countedOf, feedAt, Open, AtLf, Due, Settled, Stepped}
+use Rattle.replaying.specs.SentLaws.{sentSize, detail-shown, sent-fits}
+use Rattle.replaying.specs.CodeTurn.{reaches, passes, unreadOf, countedOf, feedAt, Open, AtLf, Due, Settled, Stepped}
 
 -- ---- what is held, as a line
 

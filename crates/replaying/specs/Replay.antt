@@ -2,22 +2,22 @@
 -- are no step do nothing but have their row.
 use Prim.Native.Nat.{ℕ}
 use mathlib.Core.List.{List, _++_}
-use mathlib.Core.Bool.{Bool, true, false}
+use mathlib.Core.Bool.{Bool}
 use lib.ListN.{replicate}
+use lib.Dec.{eqb}
 use Rattle.masks.specs.Pick.{pick}
 use Rattle.rules.specs.declared.Answer.{Answer}
-use Rattle.rules.specs.declared.Answer.the-variants.{Ok, Value, Stored, Queued, HeldOff, HeldBack, Sent, Pulse, Refused, Overrun, Unmatched, BadFrame, Ignored, Woke, NotSent}
-use Rattle.rules.specs.Answers.{wordOf, detailOf}
+use Rattle.rules.specs.Answers.{wordOf, detailOf, REFUSED}
 use Rattle.rules.specs.Flags.{linesOf}
 use Rattle.rules.specs.Steps.{Step}
 use Rattle.controller.specs.declared.Call.{Call}
-use Rattle.controller.specs.declared.FrameBytes.{FrameBytes}
+use Rattle.lines.specs.declared.FrameBytes.{FrameBytes}
 use Rattle.controller.specs.Carry.{Outcome, resetState}
 use Rattle.controller.specs.Session.{stepOf}
-use Rattle.controller.specs.Code.{stepFor, bytesIn}
+use Rattle.controller.specs.Calls.{stepFor}
 use Rattle.lines.specs.declared.Line.{Line}
 use Rattle.lines.specs.declared.Line.the-variants.{Step as step, Unread}
-use Rattle.lines.specs.Grammar.{lineOf}
+use Rattle.lines.specs.Grammar.{bytesIn, lineOf}
 use Rattle.report.specs.Text.{rowOf, unreadRow, headingOf}
 use Rattle.pieces.specs.Feed.{Feed, noneHeld, numberAfter, wholeOf}
 use Rattle.replaying.specs.declared.Player.{Player}
@@ -27,21 +27,7 @@ unfoldable pub stepIn : Call → FrameBytes → Step
 stepIn call f = stepFor call (bytesIn f) (replicate 14 0)
 
 abbrev pub isRefused : Answer → Bool
-isRefused Ok = false
-isRefused (Value v) = false
-isRefused (Stored n) = false
-isRefused (Queued n) = false
-isRefused (HeldOff n) = false
-isRefused (HeldBack n) = false
-isRefused (Sent k) = false
-isRefused (Pulse k) = false
-isRefused (Refused r) = true
-isRefused Overrun = false
-isRefused Unmatched = false
-isRefused BadFrame = false
-isRefused Ignored = false
-isRefused Woke = false
-isRefused NotSent = false
+isRefused a = eqb (wordOf a) REFUSED
 
 -- what a line makes of the player: its step, counted where it is refused, or nothing, counted too
 unfoldable pub playedBy : Player → Line → FrameBytes → Player

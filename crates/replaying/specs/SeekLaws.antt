@@ -5,7 +5,7 @@ use mathlib.Core.Path.{_≡_, refl, sym, ap, _∙_}
 use mathlib.Core.Bool.{Bool, true, false, false≢true}
 use mathlib.Core.List.{List}
 use lib.ListN.{length, take, drop}
-use Rattle.masks.specs.Pick.{by-test}
+use Rattle.masks.specs.PickLaws.{by-test}
 use Rattle.controller.specs.declared.Controller.{Controller}
 use Rattle.controller.specs.declared.Call.{Call}
 use Rattle.lines.specs.declared.Line.{Line}
@@ -16,14 +16,14 @@ use Rattle.report.specs.Text.{Put, fitting, unreadRow}
 use Rattle.pieces.specs.declared.Held.{Held}
 use Rattle.pieces.specs.declared.Gathered.{Gathered}
 use Rattle.pieces.specs.Feed.{Feed, noneHeld, lineIn, isRead}
-use Rattle.pieces.specs.Gather.{gatherOf}
+use Rattle.pieces.specs.CodeGather.{gatherOf}
 use Rattle.pieces.specs.GatherLaws.{Stops, stops}
-use Rattle.pieces.specs.Holds.{held-same, part-held}
+use Rattle.pieces.specs.HoldLaws.{held-same, part-held}
 use Rattle.replaying.specs.declared.Player.{Player}
 use Rattle.replaying.specs.declared.Tally.{Tally}
 use Rattle.replaying.specs.declared.Turn.{Turn}
-use Rattle.replaying.specs.Whole.{over-line}
-use Rattle.replaying.specs.Turn.{idles, reaches, awaits, passes, unreadOf, Open, AtLf, Ends, Seeking, Seeks, Begins}
+use Rattle.replaying.specs.WholeLaws.{over-line}
+use Rattle.replaying.specs.CodeTurn.{idles, reaches, awaits, passes, unreadOf, Open, AtLf, Ends, Seeking, Seeks, Begins}
 use Rattle.replaying.specs.OpenLaws.{open-reaches, open-past, open-unread, settled-rest}
 
 -- ---- the end of a line

@@ -1,12 +1,13 @@
--- What the public functions promise: a session in terms of the text that was fed to it.
-use Prim.Native.Nat.{ℕ, _/_, min}
+-- What the replay in pieces promises: a session in terms of the text that was fed to it, and what its rows leave in a room. Then
+-- calls one after the other (`FeedRuns`).
+use Prim.Native.Nat.{ℕ, _/_, min, _≤_, _<_}
 use mathlib.Core.Path.{_≡_}
-use mathlib.Core.List.{List}
-use lib.ListN.{length, take}
+use mathlib.Core.List.{List, [], _++_}
+use lib.ListN.{length, take, drop}
 use lib.Dec.{leb, eqb}
 use Rattle.masks.specs.Pick.{pick}
 use Rattle.report.specs.Text.{Wrote, fitting}
-use Rattle.pieces.specs.Feed.{Feed, endLine, endOf, outOf, lastOf}
+use Rattle.pieces.specs.Feed.{Feed, endLine, feedEnd, outOf, lastOf}
 use Rattle.replaying.specs.declared.Player.{Player}
 use Rattle.replaying.specs.declared.Session.{Session}
 use Rattle.replaying.specs.declared.Fed.{Fed}
@@ -21,7 +22,7 @@ feedOf s = record { state = s .player; held = s .held; number = s .number }
 -- at the start of the room
 pub record Feeds (s : Session) (piece out : List ℕ) (r : Fed) (out′ : List ℕ) : Type 0 where
   pub taken : r .taken ≡ min (length piece) (length out / 64)
-  pub session : feedOf (r .session) ≡ endOf play showRow (feedOf s) (take (r .taken) piece)
+  pub session : feedOf (r .session) ≡ feedEnd play showRow (feedOf s) (take (r .taken) piece)
   pub wrote : Wrote out (outOf play showRow (feedOf s) (take (r .taken) piece)) (r .written) out′
 
 -- the session after the last line; an empty one does not count, and without room for its row nothing happens
@@ -33,3 +34,16 @@ finishedOf s out =
 pub record Finishes (s : Session) (out : List ℕ) (r : Finished) (out′ : List ℕ) : Type 0 where
   pub session : feedOf (r .session) ≡ finishedOf s out
   pub wrote : Wrote out (fitting out 0 (lastOf play showRow (feedOf s))) (r .written) out′
+
+-- FeedRuns s text shown: with text left to feed, the calls from the session s on showed the bytes shown. Each call returned r and
+-- left its room as out′, as its function promises; the next one was given r's session, and the first r .written bytes of out′
+-- were read.
+pub data FeedRuns : Session → List ℕ → List ℕ → Type 0 where
+  -- `feed` of a piece of what is left: what it did not take, which is all of it where the room is too small, is left still
+  feeds : {s : Session} {shown : List ℕ} (piece later out : List ℕ) (r : Fed) (out′ : List ℕ) → Feeds s piece out r out′ →
+      FeedRuns (r .session) (drop (r .taken) piece ++ later) shown → FeedRuns s (piece ++ later) (take (r .written) out′ ++ shown)
+  -- `finish` without room for a row, at any time
+  waits : {s : Session} {text shown : List ℕ} (out : List ℕ) (r : Finished) (out′ : List ℕ) → Finishes s out r out′ → length out < 64 →
+      FeedRuns (r .session) text shown → FeedRuns s text (take (r .written) out′ ++ shown)
+  -- `finish` with room, once all is taken
+  ends : {s : Session} (out : List ℕ) (r : Finished) (out′ : List ℕ) → Finishes s out r out′ → 64 ≤ length out → FeedRuns s [] (take (r .written) out′)

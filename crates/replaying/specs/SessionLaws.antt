@@ -7,14 +7,15 @@ use mathlib.Core.List.{List, [], _∷_, append-nil}
 use borrow.Author.Tests.{le-leb, lt-leb, leb-true, leb-false, eq-eqb, ne-eqb}
 use lib.ListN.{length, take, replicate}
 use lib.Dec.{leb}
-use Rattle.masks.specs.Pick.{pick, pick-true, pick-false}
+use Rattle.masks.specs.Pick.{pick}
+use Rattle.masks.specs.PickLaws.{pick-true, pick-false}
 use Rattle.controller.specs.declared.Controller.{Controller}
 use Rattle.report.specs.Text.{Put, Wrote, fitting, headingOf}
 use Rattle.report.specs.Laws.{none, wrote, fits, tight, length-heading}
 use Rattle.pieces.specs.declared.Held.{Held}
 use Rattle.pieces.specs.declared.Gathered.{Gathered}
-use Rattle.pieces.specs.Feed.{Feed, noneHeld, endLine, byteS, byteO, endOf, outOf, lastOf}
-use Rattle.pieces.specs.Gather.{gatherOf}
+use Rattle.pieces.specs.Feed.{Feed, noneHeld, endLine, byteS, byteO, feedEnd, outOf, lastOf}
+use Rattle.pieces.specs.CodeGather.{gatherOf}
 use Rattle.pieces.specs.GatherLaws.{Stops, stops-within}
 use Rattle.replaying.specs.declared.Player.{Player}
 use Rattle.replaying.specs.declared.Session.{Session}
@@ -23,7 +24,7 @@ use Rattle.replaying.specs.declared.Finished.{Finished}
 use Rattle.replaying.specs.declared.Turn.{Turn}
 use Rattle.replaying.specs.Replay.{play, showRow}
 use Rattle.replaying.specs.Session.{feedOf, Feeds, finishedOf, Finishes}
-use Rattle.replaying.specs.Turn.{reaches, opened, goesOn, closed, Open, AtLf, Settled, Begins, Plays}
+use Rattle.replaying.specs.CodeTurn.{reaches, opened, goesOn, closed, Open, AtLf, Settled, Begins, Plays}
 use Rattle.replaying.specs.OpenLaws.{open-reaches, settled-open}
 
 not-true : (y : Bool) → not y ≡ true → y ≡ false
@@ -38,7 +39,7 @@ not-false false e = sym e
 
 open-first : (s : Session) (piece out : List ℕ) (end : ℕ) → end ≤ length piece → 64 * end ≤ length out →
     Open (feedOf s) piece out end (s .player .controller) (s .held) (opened s 0) out
-unfolding endOf outOf
+unfolding feedEnd outOf
 open-first s piece out end p q =
     record { bound = p; room = q; high = omega arith; lines = refl; session = refl; put = none out 0; low = omega arith }
 
@@ -105,8 +106,8 @@ module _ {s : Session} {out : List ℕ} {r : Finished} where
   })
 
 -- the row of a line is the same whether an LF ends it or not
-one-end : (f : Feed Player) → endOf play showRow f (10 ∷ []) ≡ endLine play showRow f
-unfolding endOf byteS pick
+one-end : (f : Feed Player) → feedEnd play showRow f (10 ∷ []) ≡ endLine play showRow f
+unfolding feedEnd byteS pick
 one-end f = refl
 
 one-out : (f : Feed Player) → (f .held .len ≡ 0 → ⊥) → outOf play showRow f (10 ∷ []) ≡ lastOf play showRow f
@@ -118,7 +119,7 @@ pub finishes-last : {s : Session} {out : List ℕ} {r : Finished} {out′ : List
 unfolding finishedOf
 finishes-last {s} {out} {r} {out′} {f} h l k e w =
     let one : f .taken ≡ 1 = omega (arith, k .taken) in
-    let m : feedOf (f .session) ≡ endLine play showRow (feedOf s) = k .session ∙ ap (λ (n : ℕ). endOf play showRow (feedOf s) (take n (10 ∷ []))) one ∙ one-end (feedOf s) in
+    let m : feedOf (f .session) ≡ endLine play showRow (feedOf s) = k .session ∙ ap (λ (n : ℕ). feedEnd play showRow (feedOf s) (take n (10 ∷ []))) one ∙ one-end (feedOf s) in
     rw w (record {
       session = ap feedOf e ∙ m ∙ sym (pick-true _ _ _ (le-leb 64 (length out) h) ∙ pick-false _ _ _ (ne-eqb (s .held .len) 0 l));
       wrote = rw (fits out 0 (lastOf play showRow (feedOf s)) h ∙ sym (one-out (feedOf s) l)) (rw one at (k .wrote));

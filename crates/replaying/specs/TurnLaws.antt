@@ -7,19 +7,20 @@ use mathlib.Core.List.{List}
 use lib.ListN.{length, take, replicate}
 use lib.Dec.{ltb}
 use borrow.Author.Tests.{ltb-true, ltb-false}
-use Rattle.masks.specs.Pick.{by-test}
+use Rattle.masks.specs.PickLaws.{by-test}
 use Rattle.rules.specs.declared.Answer.{Answer}
 use Rattle.rules.specs.Answers.{wordOf, detailOf}
 use Rattle.rules.specs.Flags.{linesOf}
 use Rattle.controller.specs.declared.Controller.{Controller}
 use Rattle.controller.specs.Session.{stepOf}
-use Rattle.controller.specs.Code.{doneOf, stepFor, bytesIn, roomFor}
+use Rattle.controller.specs.Calls.{doneOf, stepFor, roomFor}
+use Rattle.lines.specs.Grammar.{bytesIn}
 use Rattle.report.specs.Text.{Put, fitting, rowOf}
 use Rattle.replaying.specs.declared.Tally.{Tally}
 use Rattle.replaying.specs.declared.Turn.{Turn}
 use Rattle.replaying.specs.Replay.{stepIn}
-use Rattle.replaying.specs.Sent.{sentSize, room-size}
-use Rattle.replaying.specs.Turn.{passes, countedOf, left, Seeks, Stepped, Answers, Steps, Played, Plays}
+use Rattle.replaying.specs.SentLaws.{sentSize, room-size}
+use Rattle.replaying.specs.CodeTurn.{passes, countedOf, left, Seeks, Stepped, Answers, Steps, Played, Plays}
 use Rattle.replaying.specs.OpenLaws.{open-stepped}
 
 -- ---- the answer to the due step

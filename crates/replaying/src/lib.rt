@@ -1,15 +1,15 @@
 // The replay of a recording that comes in pieces: rows of the report out.
-mod in_place;
+mod piece_loop;
 mod turns;
 
 ghost use mathlib.Core.Path.{_≡_};
 ghost use Rattle.report.specs.Text.{Wrote, fitting, headingOf};
 ghost use Rattle.replaying.specs.Replay.{startOf};
 ghost use Rattle.replaying.specs.Session.{feedOf, Feeds, Finishes};
-ghost use Rattle.replaying.specs.Turn.{opened, goesOn, closed};
+ghost use Rattle.replaying.specs.CodeTurn.{opened, goesOn, closed};
 use controller::Call;
 use controller::Controller;
-use controller::FrameBytes;
+use lines::FrameBytes;
 use pieces::Held;
 
 // How many lines were no step, and how many steps were refused.
@@ -169,7 +169,7 @@ pub fn feed(s: Session, piece: &[u8], out: &mut [u8]) -> Fed
     let player = s.player;
     let c = player.controller;
     let mut room = [0u8; 14];
-    let lent = in_place::lines_lent(c, &mut room, piece, end, out, t);
+    let lent = piece_loop::lines_lent(c, &mut room, piece, end, out, t);
     let next = lent.controller;
     let t = lent.turn;
     let held = pieces::held_from(piece, t.taken, end);

@@ -4,12 +4,12 @@ ghost use Prim.Native.Nat.{_+_, _≤_, _<_};
 ghost use lib.ListN.{length, replicate};
 ghost use Rattle.lines.specs.Grammar.{lineOf};
 ghost use Rattle.pieces.specs.Feed.{lineIn};
-ghost use Rattle.replaying.specs.Sent.{sentSize};
-ghost use Rattle.replaying.specs.Turn.{idles, reaches, awaits, passes, unreadOf, countedOf, Ends, Seeks, Begins, Answers};
+ghost use Rattle.replaying.specs.SentLaws.{sentSize};
+ghost use Rattle.replaying.specs.CodeTurn.{idles, reaches, awaits, passes, unreadOf, countedOf, Ends, Seeks, Begins, Answers};
 use crate::Tally;
 use crate::Turn;
 use controller::Call;
-use controller::FrameBytes;
+use lines::FrameBytes;
 use lines::Line;
 use lines::Parsed;
 use pieces::Held;
@@ -136,7 +136,7 @@ fn line_ended(t: Turn, p: Parsed, next: usize, out: &mut [u8]) -> Turn
 }
 
 // Reads the lines that lie whole before index end, where they lie, up to the next one that is a step.
-pub fn seek(piece: &[u8], end: usize, out: &mut [u8], start: Turn) -> Turn
+pub(crate) fn seek(piece: &[u8], end: usize, out: &mut [u8], start: Turn) -> Turn
     ensures { λ r. ⌜ Seeks (now (piece .entry)) end (now (out .entry)) start r (now (out .exit)) ⌝ }
 {
     let mut t = idle(start);
@@ -157,7 +157,14 @@ pub fn seek(piece: &[u8], end: usize, out: &mut [u8], start: Turn) -> Turn
 }
 
 // The piece's first line ends at the LF where t stands, before index next, and all of it is held: its step, or the next.
-pub fn begun(piece: &[u8], end: usize, out: &mut [u8], t: Turn, held: Held, next: usize) -> Turn
+pub(crate) fn begun(
+    piece: &[u8],
+    end: usize,
+    out: &mut [u8],
+    t: Turn,
+    held: Held,
+    next: usize,
+) -> Turn
     ensures { λ r. ⌜ Begins (now (piece .entry)) end (now (out .entry)) t held next r (now (out .exit)) ⌝ }
 {
     let u = line_ended(t, parsed(held), next, out);
@@ -200,7 +207,7 @@ fn clear(room: &mut [u8])
 }
 
 // The due step was answered so, with the lines irq after it and the room as it left it: its row, and the next step.
-pub fn answered(
+pub(crate) fn answered(
     room: &mut [u8],
     piece: &[u8],
     end: usize,

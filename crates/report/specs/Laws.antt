@@ -1,22 +1,22 @@
 -- Laws of the report's text: texts put one behind the other, rooms that are long enough, and how long a row can be.
-use Prim.Native.Nat.{ℕ, zero, suc, _+_, _-_, _/_, _%_, _≤_, _<_}
+use Prim.Native.Nat.{ℕ, zero, suc, _+_, _-_, _/_, _%_, _≤_, _<_, max}
 use native.Mathlib.Nat.{le-of-lt, min-le-left, zero-add, add-zero, add-suc, suc-add, add-assoc}
 use native.Mathlib.Numerals.{add-one}
 use native.Mathlib.Omega.{arith}
 use mathlib.Core.Path.{_≡_, refl, sym, ap, _∙_}
 use mathlib.Core.List.{List, [], _∷_, _++_, append-assoc, append-nil}
-use mathlib.Core.Bool.{Bool}
+use mathlib.Core.Bool.{Bool, true, false}
 use borrow.Author.Tests.{leb-true, le-leb, lt-leb}
-use lib.ListN.{length, length-append, length-take, set, take, drop, getD}
+use lib.ListN.{length, length-append, length-take, length-replicate, replicate, set, take, drop, getD}
 use lib.Seq.{sets, length-sets, sets-eq, take-suc, take-at, drop-at, length-take-le, set-comm}
 use lib.Dec.{ltb, leb}
-use Rattle.masks.specs.Pick.{pick, pick-true, pick-false, pick-keeps}
+use Rattle.masks.specs.Pick.{pick}
+use Rattle.masks.specs.PickLaws.{pick-true, pick-false, pick-keeps}
 use Rattle.rules.specs.declared.SyncKind.{SyncKind}
 use Rattle.rules.specs.declared.SyncKind.the-variants.{Normal, Alarm}
 use Rattle.rules.specs.declared.Answer.{Answer}
-use Rattle.rules.specs.declared.Answer.the-variants.{Ok, Value, Stored, Queued, HeldOff, HeldBack, Sent, Pulse, Refused, Overrun, Unmatched, BadFrame, Ignored, Woke, NotSent}
-use Rattle.rules.specs.Answers.{Word, ok, read, stored, queued, heldoff, heldback, sent, pulse, refused, overrun, unmatched, badframe, ignored, woke, notsent, Detail, dash, value, buffer, bytes, kind, number, detailOf, wordOf}
-use Rattle.report.specs.Text.{hexOf, hexesOf, digitsOf, widthOf, decimalOf, wordText, unreadText, kindText, detailText, rowText, rowOf, unreadRow, headingOf, Put, Wrote, fitting}
+use Rattle.rules.specs.Answers.{wordOf, Given, dash, value, buffer, counted, kind, number, givenOf, isSent, Detail, given, bytes, framed, detailOf}
+use Rattle.report.specs.Text.{hexOf, hexesOf, digitsOf, widthOf, decimalOf, wordTexts, wordText, unreadText, kindText, givenText, detailText, rowText, rowOf, unreadRow, headingOf, Put, Wrote, fitting}
 
 -- ---- texts one behind the other
 
@@ -65,6 +65,17 @@ wrote {out} {xs} {out′} {r} p h =
     let e : length out′ ≡ length out = kept p in
     let k : r ≤ length out′ = omega arith in
     record { put = p; within = k; counts = sym (length-take-le r out′ k) }
+
+-- a room that is n bytes longer than a text takes it
+unfoldable pub freshRoom : ℕ → List ℕ → List ℕ
+freshRoom n xs = replicate (length xs + n) 0
+
+pub fresh-length : (n : ℕ) (xs : List ℕ) → length (freshRoom n xs) ≡ length xs + n
+unfolding freshRoom
+fresh-length n xs = length-replicate (length xs + n) 0
+
+pub fresh-wrote : (n : ℕ) (xs : List ℕ) → Wrote (freshRoom n xs) xs (length xs) (sets (freshRoom n xs) 0 xs)
+fresh-wrote n xs = wrote (record { next = sym (zero-add (length xs)); text = refl }) (omega (arith, fresh-length n xs))
 
 -- it can be read there, and the rest of the room is as before
 module _ {out xs : List ℕ} {r : ℕ} {out′ : List ℕ} (w : Wrote out xs r out′) where
@@ -186,26 +197,23 @@ unfolding hexesOf hexOf
 length-hexes [] = refl
 length-hexes (x ∷ xs) = let e : length (hexesOf xs) ≡ length xs + length xs = length-hexes xs in omega arith
 
-pub length-word : (w : Word) → length (wordText w) ≤ 9
-unfolding wordText
-length-word ok = omega arith
-length-word read = omega arith
-length-word stored = omega arith
-length-word queued = omega arith
-length-word heldoff = omega arith
-length-word heldback = omega arith
-length-word sent = omega arith
-length-word pulse = omega arith
-length-word refused = omega arith
-length-word overrun = omega arith
-length-word unmatched = omega arith
-length-word badframe = omega arith
-length-word ignored = omega arith
-length-word woke = omega arith
-length-word notsent = omega arith
+-- the length of a table's longest text
+longest : List (List ℕ) → ℕ
+longest [] = 0
+longest (t ∷ ts) = max (length t) (longest ts)
+
+entry-within : (ts : List (List ℕ)) (w : ℕ) → length (getD ts w []) ≤ longest ts
+unfolding longest
+entry-within [] w = omega arith
+entry-within (t ∷ ts) zero = omega arith
+entry-within (t ∷ ts) (suc w) = omega (arith, entry-within ts w)
+
+pub length-word : (w : ℕ) → length (wordText w) ≤ 9
+unfolding wordTexts longest
+length-word w = entry-within wordTexts w
 
 -- a row's number and answer with their tabs
-pub length-start : (n : ℕ) (w : Word) → length (decimalOf n ++ (9 ∷ []) ++ wordText w ++ (9 ∷ [])) ≤ 17
+pub length-start : (n w : ℕ) → length (decimalOf n ++ (9 ∷ []) ++ wordText w ++ (9 ∷ [])) ≤ 17
 length-start n w = simp length-append (omega (arith, length-decimal n, length-word w))
 
 pub length-kind : (k : SyncKind) → length (kindText k) ≡ 1
@@ -215,39 +223,30 @@ length-kind Alarm = refl
 
 -- the frame of a detail, none where it has no bytes
 abbrev pub frameIn : Detail → List ℕ
-frameIn dash = []
-frameIn (value v) = []
-frameIn (buffer n) = []
-frameIn (bytes f) = f
-frameIn (kind k) = []
-frameIn (number r) = []
+frameIn (given g) = []
+frameIn (bytes k f) = f
+
+length-given : (g : Given) → length (givenText g) ≤ 2
+unfolding givenText
+length-given dash = omega arith
+length-given (value v) = omega (arith, length-hex v)
+length-given (buffer n) = omega (arith, length-hex n)
+length-given (counted k) = omega (arith, length-hex k)
+length-given (kind k) = omega (arith, length-kind k)
+length-given (number r) = omega (arith, length-hex r)
 
 pub length-detail : (d : Detail) → length (frameIn d) ≤ 14 → length (detailText d) ≤ 28
 unfolding detailText
-length-detail dash h = omega arith
-length-detail (value v) h = omega (arith, length-hex v)
-length-detail (buffer n) h = omega (arith, length-hex n)
-length-detail (bytes f) h = omega (arith, length-hexes f)
-length-detail (kind k) h = omega (arith, length-kind k)
-length-detail (number r) h = omega (arith, length-hex r)
+length-detail (given g) h = omega (arith, length-given g)
+length-detail (bytes k f) h = omega (arith, length-hexes f)
 
 -- an answer's detail holds no other frame than the one that was sent
+frame-framed : (t : Bool) (g : Given) (f : List ℕ) → length f ≤ 14 → length (frameIn (framed t g f)) ≤ 14
+frame-framed true g f h = h
+frame-framed false g f h = omega arith
+
 pub frame-sent : (a : Answer) (f : List ℕ) → length f ≤ 14 → length (frameIn (detailOf a f)) ≤ 14
-frame-sent Ok f h = omega arith
-frame-sent (Value v) f h = omega arith
-frame-sent (Stored n) f h = omega arith
-frame-sent (Queued n) f h = omega arith
-frame-sent (HeldOff n) f h = omega arith
-frame-sent (HeldBack n) f h = omega arith
-frame-sent (Sent k) f h = h
-frame-sent (Pulse k) f h = omega arith
-frame-sent (Refused r) f h = omega arith
-frame-sent Overrun f h = omega arith
-frame-sent Unmatched f h = omega arith
-frame-sent BadFrame f h = omega arith
-frame-sent Ignored f h = omega arith
-frame-sent Woke f h = omega arith
-frame-sent NotSent f h = omega arith
+frame-sent a f h = frame-framed (isSent a) (givenOf a) f h
 
 -- a row's parts: at most 6, 9, 28 and 2 bytes, and four for the tabs and LF
 row-le : (n : ℕ) (word detail : List ℕ) (irq : ℕ) → length word ≤ 9 → length detail ≤ 28 → length (rowText n word detail irq) ≤ 64
@@ -255,7 +254,7 @@ unfolding rowText
 row-le n word detail irq p q = simp length-append (omega (arith, length-decimal n, length-hex irq))
 
 -- no row is longer than the room that is asked for it
-pub length-row : (n : ℕ) (w : Word) (d : Detail) (irq : ℕ) → length (frameIn d) ≤ 14 → length (rowOf n w d irq) ≤ 64
+pub length-row : (n w : ℕ) (d : Detail) (irq : ℕ) → length (frameIn d) ≤ 14 → length (rowOf n w d irq) ≤ 64
 length-row n w d irq h = row-le n (wordText w) (detailText d) irq (length-word w) (length-detail d h)
 
 -- the row that is put for a step, whatever frame comes with its answer

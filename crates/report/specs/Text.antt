@@ -2,13 +2,13 @@
 use Prim.Native.Nat.{ℕ, zero, suc, _+_, _/_, _%_, _≤_}
 use mathlib.Core.Path.{_≡_}
 use mathlib.Core.List.{List, [], _∷_, _++_}
-use lib.ListN.{length, take}
+use lib.ListN.{length, take, getD}
 use lib.Seq.{sets}
 use lib.Dec.{ltb, leb}
 use Rattle.masks.specs.Pick.{pick}
 use Rattle.rules.specs.declared.SyncKind.{SyncKind}
 use Rattle.rules.specs.declared.SyncKind.the-variants.{Normal, Alarm}
-use Rattle.rules.specs.Answers.{Word, ok, read, stored, queued, heldoff, heldback, sent, pulse, refused, overrun, unmatched, badframe, ignored, woke, notsent, Detail, dash, value, buffer, bytes, kind, number}
+use Rattle.rules.specs.Answers.{Given, dash, value, buffer, counted, kind, number, Detail, given, bytes}
 
 -- ---- numbers
 
@@ -38,22 +38,27 @@ decimalOf n = digitsOf (widthOf n) n
 
 -- ---- words and details
 
-unfoldable pub wordText : Word → List ℕ
-wordText ok = 111 ∷ 107 ∷ []
-wordText read = 114 ∷ 101 ∷ 97 ∷ 100 ∷ []
-wordText stored = 115 ∷ 116 ∷ 111 ∷ 114 ∷ 101 ∷ 100 ∷ []
-wordText queued = 113 ∷ 117 ∷ 101 ∷ 117 ∷ 101 ∷ 100 ∷ []
-wordText heldoff = 104 ∷ 101 ∷ 108 ∷ 100 ∷ 111 ∷ 102 ∷ 102 ∷ []
-wordText heldback = 104 ∷ 101 ∷ 108 ∷ 100 ∷ 98 ∷ 97 ∷ 99 ∷ 107 ∷ []
-wordText sent = 115 ∷ 101 ∷ 110 ∷ 116 ∷ []
-wordText pulse = 112 ∷ 117 ∷ 108 ∷ 115 ∷ 101 ∷ []
-wordText refused = 114 ∷ 101 ∷ 102 ∷ 117 ∷ 115 ∷ 101 ∷ 100 ∷ []
-wordText overrun = 111 ∷ 118 ∷ 101 ∷ 114 ∷ 114 ∷ 117 ∷ 110 ∷ []
-wordText unmatched = 117 ∷ 110 ∷ 109 ∷ 97 ∷ 116 ∷ 99 ∷ 104 ∷ 101 ∷ 100 ∷ []
-wordText badframe = 98 ∷ 97 ∷ 100 ∷ 102 ∷ 114 ∷ 97 ∷ 109 ∷ 101 ∷ []
-wordText ignored = 105 ∷ 103 ∷ 110 ∷ 111 ∷ 114 ∷ 101 ∷ 100 ∷ []
-wordText woke = 119 ∷ 111 ∷ 107 ∷ 101 ∷ []
-wordText notsent = 110 ∷ 111 ∷ 116 ∷ 115 ∷ 101 ∷ 110 ∷ 116 ∷ []
+-- by the words' numbers: ok, read, stored, queued, heldoff, heldback, sent, pulse, refused, overrun, unmatched, badframe, ignored, woke, notsent
+unfoldable pub wordTexts : List (List ℕ)
+wordTexts =
+    (111 ∷ 107 ∷ [])
+    ∷ (114 ∷ 101 ∷ 97 ∷ 100 ∷ [])
+    ∷ (115 ∷ 116 ∷ 111 ∷ 114 ∷ 101 ∷ 100 ∷ [])
+    ∷ (113 ∷ 117 ∷ 101 ∷ 117 ∷ 101 ∷ 100 ∷ [])
+    ∷ (104 ∷ 101 ∷ 108 ∷ 100 ∷ 111 ∷ 102 ∷ 102 ∷ [])
+    ∷ (104 ∷ 101 ∷ 108 ∷ 100 ∷ 98 ∷ 97 ∷ 99 ∷ 107 ∷ [])
+    ∷ (115 ∷ 101 ∷ 110 ∷ 116 ∷ [])
+    ∷ (112 ∷ 117 ∷ 108 ∷ 115 ∷ 101 ∷ [])
+    ∷ (114 ∷ 101 ∷ 102 ∷ 117 ∷ 115 ∷ 101 ∷ 100 ∷ [])
+    ∷ (111 ∷ 118 ∷ 101 ∷ 114 ∷ 114 ∷ 117 ∷ 110 ∷ [])
+    ∷ (117 ∷ 110 ∷ 109 ∷ 97 ∷ 116 ∷ 99 ∷ 104 ∷ 101 ∷ 100 ∷ [])
+    ∷ (98 ∷ 97 ∷ 100 ∷ 102 ∷ 114 ∷ 97 ∷ 109 ∷ 101 ∷ [])
+    ∷ (105 ∷ 103 ∷ 110 ∷ 111 ∷ 114 ∷ 101 ∷ 100 ∷ [])
+    ∷ (119 ∷ 111 ∷ 107 ∷ 101 ∷ [])
+    ∷ (110 ∷ 111 ∷ 116 ∷ 115 ∷ 101 ∷ 110 ∷ 116 ∷ []) ∷ []
+
+abbrev pub wordText : ℕ → List ℕ
+wordText w = getD wordTexts w []
 
 -- "unread"
 unfoldable pub unreadText : List ℕ
@@ -64,14 +69,19 @@ unfoldable pub kindText : SyncKind → List ℕ
 kindText Normal = 78 ∷ []
 kindText Alarm = 65 ∷ []
 
--- "-", a value, number or buffer in hex, a sent frame's bytes, or the kind of a pulse
+-- "-", a value, number or buffer in hex, or the kind of a pulse
+unfoldable pub givenText : Given → List ℕ
+givenText dash = 45 ∷ []
+givenText (value v) = hexOf v
+givenText (buffer n) = hexOf n
+givenText (counted k) = hexOf k
+givenText (kind k) = kindText k
+givenText (number r) = hexOf r
+
+-- the same, or a sent frame's bytes
 unfoldable pub detailText : Detail → List ℕ
-detailText dash = 45 ∷ []
-detailText (value v) = hexOf v
-detailText (buffer n) = hexOf n
-detailText (bytes f) = hexesOf f
-detailText (kind k) = kindText k
-detailText (number r) = hexOf r
+detailText (given g) = givenText g
+detailText (bytes k f) = hexesOf f
 
 -- ---- rows: number, answer, detail and the five lines, parted by tabs, ended by LF
 
@@ -79,7 +89,7 @@ unfoldable pub rowText : ℕ → List ℕ → List ℕ → ℕ → List ℕ
 rowText n word detail irq = decimalOf n ++ (9 ∷ []) ++ word ++ (9 ∷ []) ++ detail ++ (9 ∷ []) ++ hexOf irq ++ (10 ∷ [])
 
 -- the row of a step
-abbrev pub rowOf : ℕ → Word → Detail → ℕ → List ℕ
+abbrev pub rowOf : ℕ → ℕ → Detail → ℕ → List ℕ
 rowOf n w d irq = rowText n (wordText w) (detailText d) irq
 
 -- the row of a line that is no step

@@ -1,58 +1,98 @@
--- Document 01, 'The replay text': the word and the detail of each answer.
+-- Document 01, 'The replay text': the word and the detail of each answer. `partsOf` is the one table that goes by the cases of
+-- an answer; all else is said of its word's number and of what comes with it.
 use Prim.Native.Nat.{ℕ}
+use mathlib.Core.Bool.{Bool, true, false, _||_}
 use mathlib.Core.List.{List}
+use lib.Dec.{eqb}
 use Rattle.rules.specs.declared.SyncKind.{SyncKind}
+use Rattle.rules.specs.declared.SyncKind.the-variants.{Normal, Alarm}
 use Rattle.rules.specs.declared.Answer.{Answer}
 use Rattle.rules.specs.declared.Answer.the-variants.{Ok, Value, Stored, Queued, HeldOff, HeldBack, Sent, Pulse, Refused, Overrun, Unmatched, BadFrame, Ignored, Woke, NotSent}
 
-pub data Word : Type 0 where
-  ok read stored queued heldoff heldback sent pulse refused overrun unmatched badframe ignored woke notsent : Word
-
-pub data Detail : Type 0 where
+-- what comes with an answer's word
+pub data Given : Type 0 where
   -- "-"
-  dash : Detail
+  dash : Given
   -- the value read
-  value : ℕ → Detail
+  value : ℕ → Given
   -- "nn always the buffer's number"
-  buffer : ℕ → Detail
-  -- a sent frame's bytes
-  bytes : List ℕ → Detail
+  buffer : ℕ → Given
+  -- so many bytes of the room are the frame
+  counted : ℕ → Given
   -- N or A
-  kind : SyncKind → Detail
+  kind : SyncKind → Given
   -- the refusal's number
-  number : ℕ → Detail
+  number : ℕ → Given
 
-abbrev pub wordOf : Answer → Word
-wordOf Ok = ok
-wordOf (Value v) = read
-wordOf (Stored n) = stored
-wordOf (Queued n) = queued
-wordOf (HeldOff n) = heldoff
-wordOf (HeldBack n) = heldback
-wordOf (Sent k) = sent
-wordOf (Pulse k) = pulse
-wordOf (Refused r) = refused
-wordOf Overrun = overrun
-wordOf Unmatched = unmatched
-wordOf BadFrame = badframe
-wordOf Ignored = ignored
-wordOf Woke = woke
-wordOf NotSent = notsent
+abbrev pub syncNumber : SyncKind → ℕ
+syncNumber Normal = 0
+syncNumber Alarm = 1
+
+-- the value, buffer, counted, kind or refusal as a number, or 0
+abbrev pub numberIn : Given → ℕ
+numberIn dash = 0
+numberIn (value v) = v
+numberIn (buffer n) = n
+numberIn (counted k) = k
+numberIn (kind k) = syncNumber k
+numberIn (number r) = r
+
+-- the words by their numbers, in the order of document 01's report
+pub record Parts : Type 0 where
+  pub word : ℕ
+  pub given : Given
+
+abbrev parts : ℕ → Given → Parts
+parts w g = record { word = w; given = g }
+
+abbrev pub partsOf : Answer → Parts
+partsOf Ok = parts 0 dash
+partsOf (Value v) = parts 1 (value v)
+partsOf (Stored n) = parts 2 (buffer n)
+partsOf (Queued n) = parts 3 (buffer n)
+partsOf (HeldOff n) = parts 4 (buffer n)
+partsOf (HeldBack n) = parts 5 (buffer n)
+partsOf (Sent k) = parts 6 (counted k)
+partsOf (Pulse k) = parts 7 (kind k)
+partsOf (Refused r) = parts 8 (number r)
+partsOf Overrun = parts 9 dash
+partsOf Unmatched = parts 10 dash
+partsOf BadFrame = parts 11 dash
+partsOf Ignored = parts 12 dash
+partsOf Woke = parts 13 dash
+partsOf NotSent = parts 14 dash
+
+abbrev pub SENT : ℕ
+SENT = 6
+
+abbrev pub REFUSED : ℕ
+REFUSED = 8
+
+abbrev pub IGNORED : ℕ
+IGNORED = 12
+
+abbrev pub wordOf : Answer → ℕ
+wordOf a = partsOf a .word
+
+abbrev pub givenOf : Answer → Given
+givenOf a = partsOf a .given
+
+abbrev pub isSent : Answer → Bool
+isSent a = eqb (wordOf a) SENT
+
+-- a detail: what comes with the word, or a sent frame's bytes beside their count
+pub data Detail : Type 0 where
+  given : Given → Detail
+  bytes : ℕ → List ℕ → Detail
+
+abbrev pub framed : Bool → Given → List ℕ → Detail
+framed true g f = bytes (numberIn g) f
+framed false g f = given g
 
 -- the detail of an answer, with the frame that was sent
 abbrev pub detailOf : Answer → List ℕ → Detail
-detailOf Ok f = dash
-detailOf (Value v) f = value v
-detailOf (Stored n) f = buffer n
-detailOf (Queued n) f = buffer n
-detailOf (HeldOff n) f = buffer n
-detailOf (HeldBack n) f = buffer n
-detailOf (Sent k) f = bytes f
-detailOf (Pulse k) f = kind k
-detailOf (Refused r) f = number r
-detailOf Overrun f = dash
-detailOf Unmatched f = dash
-detailOf BadFrame f = dash
-detailOf Ignored f = dash
-detailOf Woke f = dash
-detailOf NotSent f = dash
+detailOf a f = framed (isSent a) (givenOf a) f
+
+-- the answers "refused" and "ignored"
+abbrev pub changesNothing : Answer → Bool
+changesNothing a = eqb (wordOf a) REFUSED || eqb (wordOf a) IGNORED

@@ -1,17 +1,23 @@
-pub mod Record
+-- definitions
 pub mod Registers
+pub mod Reads
+pub mod Record
 pub mod Kinds
+pub mod Writes
 pub mod Modes
 pub mod Bus
 pub mod Flags
 pub mod Refusals
+pub mod Answers
 pub mod Steps
 pub mod Plan
-pub mod Reads
-pub mod Writes
-pub mod Answers
 pub mod Rules
-pub mod Hidden
-pub mod Unchanged
 pub mod Untouched
-pub mod Sending
+-- final statements
+pub mod Hidden
+-- nothing to believe: laws, and the code's own definitions
+pub mod AnswerLaws
+pub mod HiddenLaws
+pub mod UnchangedLaws
+pub mod UntouchedLaws
+pub mod SendingLaws

@@ -1,5 +1,5 @@
 -- The control plane's answer. The rules see the control state, the buffers' identifiers and lengths, and a step with its
--- payload put to 0; they answer a plan, which the data plane then receives out on the buffers' bytes.
+-- payload put to 0; they answer a plan, which the data plane then carries out on the buffers' bytes.
 use Prim.Native.Nat.{ℕ}
 use mathlib.Core.List.{List, []}
 use lib.ListN.{getD}

@@ -11,7 +11,7 @@ use Rattle.rules.specs.declared.Register.the-variants.{Mcr, Fsizr, Tcr1,
 use Rattle.rules.specs.declared.Answer.the-variants.{Value}
 use Rattle.rules.specs.declared.Mode.{Mode}
 use Rattle.rules.specs.declared.Control.{Control}
-use Rattle.rules.specs.Registers.{withFlag, INITRQ, MASTER, ALARM, SLPAK, SLPRQ, WPULSE, SSWAI, INITAK, BFEN, TXBUFLOCK, RXBUFLOCK, CFG, IENA, IFLG, LOCK, ABTAK}
+use Rattle.rules.specs.Registers.{Region, sendPlace, receivePlace, fifoPlace, elsewhere, regionOf, withFlag, INITRQ, MASTER, ALARM, SLPAK, SLPRQ, WPULSE, SSWAI, INITAK, BFEN, TXBUFLOCK, RXBUFLOCK, CFG, IENA, IFLG, LOCK, ABTAK}
 use Rattle.rules.specs.Kinds.{isTransmit, hasIena, hasIflg, hasAbtak, isLocked, fifoHolder}
 use Rattle.rules.specs.Flags.{risr, gisr, receiveVector, transmitVector}
 use Rattle.rules.specs.Plan.{headAt, Reply, say, show}
@@ -78,27 +78,11 @@ windowReply hs n p =
     pick (ltb p 2) (say (Value (headByte (headAt hs n) p)))
     (pick (ltb n 16) (show n (p - 2)) (say (Value 0)))
 
+abbrev pub replyIn : Control → List Head → Region → ℕ → Reply
+replyIn c hs (sendPlace p) v = windowReply hs (c .transmit .holder) p
+replyIn c hs (receivePlace p) v = windowReply hs (c .receive .holder) p
+replyIn c hs (fifoPlace p) v = windowReply hs (fifoHolder c) p
+replyIn c hs elsewhere v = say (Value v)
+
 unfoldable pub readReply : Control → List Head → Register → Reply
-readReply c hs Mcr = say (Value (valueOf c Mcr))
-readReply c hs Fsizr = say (Value (valueOf c Fsizr))
-readReply c hs Tcr1 = say (Value (valueOf c Tcr1))
-readReply c hs Tcr2 = say (Value (valueOf c Tcr2))
-readReply c hs Tcr3 = say (Value (valueOf c Tcr3))
-readReply c hs Risr = say (Value (valueOf c Risr))
-readReply c hs Gisr = say (Value (valueOf c Gisr))
-readReply c hs Rier = say (Value (valueOf c Rier))
-readReply c hs Gier = say (Value (valueOf c Gier))
-readReply c hs Rivec = say (Value (valueOf c Rivec))
-readReply c hs Tivec = say (Value (valueOf c Tivec))
-readReply c hs Fidac = say (Value (valueOf c Fidac))
-readReply c hs Fidmr = say (Value (valueOf c Fidmr))
-readReply c hs Mvr = say (Value (valueOf c Mvr))
-readReply c hs Pctlbf = say (Value (valueOf c Pctlbf))
-readReply c hs Buflock = say (Value (valueOf c Buflock))
-readReply c hs Fidrj = say (Value (valueOf c Fidrj))
-readReply c hs Fidrmr = say (Value (valueOf c Fidrmr))
-readReply c hs (TransmitWindow p) = windowReply hs (c .transmit .holder) p
-readReply c hs (ReceiveWindow p) = windowReply hs (c .receive .holder) p
-readReply c hs (FifoWindow p) = windowReply hs (fifoHolder c) p
-readReply c hs (Bufctl n) = say (Value (valueOf c (Bufctl n)))
-readReply c hs Reserved = say (Value (valueOf c Reserved))
+readReply c hs r = replyIn c hs (regionOf r) (valueOf c r)

@@ -101,10 +101,6 @@ writeRefusal c a v =
     (refuses1 a ∷ refuses2 c a ∷ refuses3 a ∷ refuses4 c a ∷ refuses5 c a
     ∷ refuses6 a v ∷ refuses7 c a v ∷ refuses8 c a v ∷ refuses9 c a v ∷ refuses10 c a v ∷ [])
 
--- those of them from 6 on
-unfoldable pub lateRefusal : Control → ℕ → ℕ → ℕ
-lateRefusal c a v = firstOf 6 (refuses6 a v ∷ refuses7 c a v ∷ refuses8 c a v ∷ refuses9 c a v ∷ refuses10 c a v ∷ [])
-
 -- a step's refusal, 0 for none
 unfoldable pub refusal : Control → Step → ℕ
 refusal c reset = 0

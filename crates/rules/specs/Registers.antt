@@ -150,6 +150,36 @@ registerAt a =
     (pick (ltb a 0x50) (windowMap FifoWindow (a - 0x40))
     (pick (ltb a 0x60) (Bufctl (a - 0x50)) Reserved))))
 
+-- ---- the windows: a register is a place of one of them, or none
+pub data Region : Type 0 where
+  sendPlace receivePlace fifoPlace : ℕ → Region
+  elsewhere : Region
+
+abbrev pub regionOf : Register → Region
+regionOf Mcr = elsewhere
+regionOf Fsizr = elsewhere
+regionOf Tcr1 = elsewhere
+regionOf Tcr2 = elsewhere
+regionOf Tcr3 = elsewhere
+regionOf Risr = elsewhere
+regionOf Gisr = elsewhere
+regionOf Rier = elsewhere
+regionOf Gier = elsewhere
+regionOf Rivec = elsewhere
+regionOf Tivec = elsewhere
+regionOf Fidac = elsewhere
+regionOf Fidmr = elsewhere
+regionOf Mvr = elsewhere
+regionOf Pctlbf = elsewhere
+regionOf Buflock = elsewhere
+regionOf Fidrj = elsewhere
+regionOf Fidrmr = elsewhere
+regionOf (TransmitWindow p) = sendPlace p
+regionOf (ReceiveWindow p) = receivePlace p
+regionOf (FifoWindow p) = fifoPlace p
+regionOf (Bufctl n) = elsewhere
+regionOf Reserved = elsewhere
+
 -- ---- after reset: "zero everywhere, buffers too (h), but $00 = $81, $0A = $0B = $10, $0D = $FF (h), $15 = $FF"
 
 abbrev pub noEvents : Events

@@ -14,7 +14,7 @@ use Rattle.rules.specs.declared.Buffers.{Buffers}
 use Rattle.rules.specs.declared.Fifo.{Fifo}
 use Rattle.rules.specs.declared.Control.{Control}
 use Rattle.rules.specs.Record.{withConfig, withEvents, withFifo, withReceive, withTransmit, withBuffers, withFsiz, withTcr1, withTcr2, withTcr3, withRier, withGier, withAccept, withReject, withBfen, withPattern, withMask, withCfg, withIena, withIflg, withAbtak, withArmed}
-use Rattle.rules.specs.Registers.{has, RCVFIF, RXIF, SYNAIF, SYNNIF, SLMMIF, XSYNIF, LOCKIE, BFEN, CFG, IENA, IFLG, LOCK, ABTRQ}
+use Rattle.rules.specs.Registers.{Region, sendPlace, receivePlace, fifoPlace, elsewhere, regionOf, has, RCVFIF, RXIF, SYNAIF, SYNNIF, SLMMIF, XSYNIF, LOCKIE, BFEN, CFG, IENA, IFLG, LOCK, ABTRQ}
 use Rattle.rules.specs.Kinds.{isTransmit, isReceive, isLocked, isFullTransmit, placeAfter}
 use Rattle.rules.specs.Flags.{writeRisr, writeGisr}
 use Rattle.rules.specs.Modes.{enter, writeMcr}
@@ -139,27 +139,11 @@ unfoldable pub windowMoves : ℕ → ℕ → ℕ → List Move
 windowMoves n p v =
     pick (eqb p 0) (setIdent n v ∷ []) (pick (eqb p 1) (setLength n (v % 16) ∷ []) (setData n (p - 2) ∷ []))
 
+abbrev pub movesIn : Control → Region → ℕ → List Move
+movesIn c (sendPlace p) v = windowMoves (c .transmit .holder) p v
+movesIn c (receivePlace p) v = windowMoves (c .receive .holder) p v
+movesIn c (fifoPlace p) v = []
+movesIn c elsewhere v = []
+
 unfoldable pub writeMoves : Control → Register → ℕ → List Move
-writeMoves c Mcr v = []
-writeMoves c Fsizr v = []
-writeMoves c Tcr1 v = []
-writeMoves c Tcr2 v = []
-writeMoves c Tcr3 v = []
-writeMoves c Risr v = []
-writeMoves c Gisr v = []
-writeMoves c Rier v = []
-writeMoves c Gier v = []
-writeMoves c Rivec v = []
-writeMoves c Tivec v = []
-writeMoves c Fidac v = []
-writeMoves c Fidmr v = []
-writeMoves c Mvr v = []
-writeMoves c Pctlbf v = []
-writeMoves c Buflock v = []
-writeMoves c Fidrj v = []
-writeMoves c Fidrmr v = []
-writeMoves c (TransmitWindow p) v = windowMoves (c .transmit .holder) p v
-writeMoves c (ReceiveWindow p) v = windowMoves (c .receive .holder) p v
-writeMoves c (FifoWindow p) v = []
-writeMoves c (Bufctl n) v = []
-writeMoves c Reserved v = []
+writeMoves c r v = movesIn c (regionOf r) v

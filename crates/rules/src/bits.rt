@@ -1,4 +1,6 @@
 // The bits of the registers, each by its weight, under the manual's names.
+ghost use mathlib.Core.Path.{_≡_};
+ghost use Rattle.rules.specs.Registers.{has};
 
 // $00
 pub const INITRQ: u8 = 0x80;
@@ -78,5 +80,20 @@ pub const ABTRQ: u8 = 0x08;
 
 pub const ABTAK: u8 = 0x04;
 
-// The number that stands for no buffer.
-pub const NONE: u8 = 16;
+// the five interrupt lines
+pub const LINE_FIFO: u8 = 0x10;
+
+pub const LINE_RECEIVE: u8 = 0x08;
+
+pub const LINE_SYNC: u8 = 0x04;
+
+pub const LINE_XSYNC: u8 = 0x02;
+
+pub const LINE_GENERAL: u8 = 0x01;
+
+// The bit of that weight in v. Weight 0 is no bit.
+pub fn has(v: u8, bit: u8) -> bool
+    ensures { λ r. ⌜ r ≡ has v bit ⌝ }
+{
+    bit != 0 && v / bit % 2 == 1
+}

@@ -1,1 +1,2 @@
-pub mod Room
+-- nothing to believe: laws, and the code's own definitions
+pub mod CodeRoom

@@ -4,7 +4,7 @@ ghost use mathlib.Core.Path.{_≡_};
 ghost use Prim.Native.Nat.{_+_, min};
 ghost use lib.ListN.{length};
 ghost use Rattle.contents.specs.Bytes.{frameOf};
-ghost use Rattle.sending.specs.Room.{roomAfter};
+ghost use Rattle.sending.specs.CodeRoom.{roomAfter};
 
 // The bytes of a frame that is sent with a length: identifier, length, and min(12, length) data bytes.
 fn sent_size(len: u8) -> u8

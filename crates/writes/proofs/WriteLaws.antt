@@ -2,7 +2,8 @@
 use Prim.Native.Nat.{ℕ}
 use mathlib.Core.Bool.{Bool, true, false}
 use mathlib.Core.Path.{_≡_, _∙_}
-use Rattle.masks.specs.Pick.{pick, pick-true, pick-false}
+use Rattle.masks.specs.Pick.{pick}
+use Rattle.masks.specs.PickLaws.{pick-true, pick-false}
 use Rattle.locks.specs.Pair.{takeLock}
 use Rattle.rules.specs.declared.Control.{Control}
 use Rattle.rules.specs.Record.{withReceive, withFifo}

@@ -14,6 +14,7 @@ use rules::bits::ABTRQ;
 use rules::bits::IENA;
 use rules::bits::IFLG;
 use rules::bits::LOCK;
+use rules::bits::has;
 
 fn write_cfg(c: Control, n: u8, v: u8) -> Control
     ensures { λ r. ⌜ r ≡ writeCfg c n v ⌝ }
@@ -28,7 +29,7 @@ fn write_iena(c: Control, n: u8, v: u8) -> Control
     ensures { λ r. ⌜ r ≡ writeIena c n v ⌝ }
 {
     let mut next = c;
-    let iena = masks::put(c.buffers.iena, n, v / IENA % 2 == 1);
+    let iena = masks::put(c.buffers.iena, n, has(v, IENA));
     next.buffers.iena = iena;
     next
 }
@@ -50,7 +51,7 @@ fn clear_iflg(c: Control, n: u8) -> Buffers
 fn write_iflg(c: Control, n: u8, v: u8) -> Control
     ensures { λ r. ⌜ r ≡ writeIflg c n v ⌝ }
 {
-    if v / IFLG % 2 == 1 && !c.mode.init {
+    if has(v, IFLG) && !c.mode.init {
         return with_buffers(c, clear_iflg(c, n));
     }
     c
@@ -73,7 +74,7 @@ fn abort(c: Control, n: u8) -> Buffers
 fn write_abtrq(c: Control, n: u8, v: u8) -> Control
     ensures { λ r. ⌜ r ≡ writeAbtrq c n v ⌝ }
 {
-    if v / ABTRQ % 2 == 1 && !c.mode.init && is_full_transmit(c, n) {
+    if has(v, ABTRQ) && !c.mode.init && is_full_transmit(c, n) {
         return with_buffers(c, abort(c, n));
     }
     c
@@ -82,7 +83,7 @@ fn write_abtrq(c: Control, n: u8, v: u8) -> Control
 fn write_lock(c: Control, n: u8, v: u8) -> Control
     ensures { λ r. ⌜ r ≡ writeLock c n v ⌝ }
 {
-    if v / LOCK % 2 == 1 {
+    if has(v, LOCK) {
         if is_locked(c, n) {
             return c;
         }

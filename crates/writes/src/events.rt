@@ -6,6 +6,7 @@ use rules::bits::GISR_EVENTS;
 use rules::bits::GISR_OTHERS;
 use rules::bits::RISR_EVENTS;
 use rules::bits::SYNLIF;
+use rules::bits::has;
 
 // A write of $06: a written 1 clears an event flag.
 pub(crate) fn write_risr(f: Events, v: u8) -> Events
@@ -16,14 +17,14 @@ pub(crate) fn write_risr(f: Events, v: u8) -> Events
     next
 }
 
-// A SYNLIF clear that waits for the next sync.
+// A SYNLIF clear that waits for the next sync: the flag stands, and the module is unsynchronized.
 fn defers_clear(f: Events, synced: bool, v: u8) -> bool
     ensures { λ r. ⌜ r ≡ defersClear synced f v ⌝ }
 {
-    v / SYNLIF % 2 == 1 && f.gisr / SYNLIF % 2 == 1 && !synced
+    has(v, SYNLIF) && has(f.gisr, SYNLIF) && !synced
 }
 
-// A write of $07.
+// A write of $07: a written 1 clears an event flag, SYNLIF perhaps later.
 pub(crate) fn write_gisr(f: Events, synced: bool, v: u8) -> Events
     ensures { λ r. ⌜ r ≡ writeGisr synced f v ⌝ }
 {

@@ -29,6 +29,7 @@ use rules::Register;
 use rules::bits::BFEN;
 use rules::bits::LOCKIE;
 use rules::bits::RIER_BITS;
+use rules::bits::has;
 
 // $09 as written: LOCKIE changes in initialization only.
 pub fn write_gier(init: bool, old: u8, v: u8) -> u8
@@ -70,7 +71,7 @@ pub fn written_low(c: Control, register: Register, v: u8) -> Control
         Register::Fidac => with_accept_pattern(c, v),
         Register::Fidmr => with_accept_mask(c, v),
         Register::Mvr => c,
-        Register::Pctlbf => with_bfen(c, v / BFEN % 2 == 1),
+        Register::Pctlbf => with_bfen(c, has(v, BFEN)),
         Register::Buflock => c,
         Register::Fidrj => with_reject_pattern(c, v),
         Register::Fidrmr => with_reject_mask(c, v),

@@ -13,12 +13,13 @@ use modes::with_fifo;
 use rules::Control;
 use rules::Fifo;
 use rules::bits::LOCKIE;
+use rules::bits::has;
 
-// A new lock of the kind whose locks were l enters initialization.
+// Whether a new lock enters initialization: it is a contender, l having been its kind's locks, and LOCKIE is set.
 fn enters_by_lock(c: Control, l: Locks) -> bool
     ensures { λ r. ⌜ r ≡ entersByLock l c ⌝ }
 {
-    l.has_holder() && c.config.gier / LOCKIE % 2 == 1 && !c.mode.init
+    l.has_holder() && has(c.config.gier, LOCKIE) && !c.mode.init
 }
 
 fn lock_error(c: Control, l: Locks) -> Control
@@ -30,7 +31,7 @@ fn lock_error(c: Control, l: Locks) -> Control
     c
 }
 
-// Buffer n is not sent in this cycle.
+// Buffer n disarmed: it is not sent in this cycle.
 fn disarm(c: Control, n: u8) -> Control
     ensures { λ r. ⌜ r ≡ disarm c n ⌝ }
 {
@@ -49,7 +50,7 @@ fn lock_fifo(c: Control) -> Control
     next
 }
 
-// A new lock on buffer n.
+// A new lock on buffer n. Of the FIFO's buffers refusal 9 has left only the oldest entry.
 pub(crate) fn lock(c: Control, n: u8) -> Control
     ensures { λ r. ⌜ r ≡ lock c n ⌝ }
 {

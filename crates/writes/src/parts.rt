@@ -1,4 +1,4 @@
-// The control state with one part of it anew.
+// Setters: the control state with one part changed. The rules call these, so that their proofs meet no record with all its fields.
 ghost use mathlib.Core.Path.{_≡_};
 ghost use Rattle.rules.specs.Record.{withConfig, withEvents, withReceive, withTransmit, withFsiz, withTcr1, withTcr2, withTcr3, withRier, withGier, withBfen, withAccept, withReject, withPattern, withMask};
 use locks::Locks;
@@ -29,7 +29,6 @@ pub(crate) fn with_transmit(c: Control, l: Locks) -> Control
     next
 }
 
-// One part of the configuration.
 pub(crate) fn with_fsiz(c: Control, x: u8) -> Control
     ensures { λ r. ⌜ r ≡ withConfig c (withFsiz (c .config) x) ⌝ }
 {

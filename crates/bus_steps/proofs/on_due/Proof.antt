@@ -1,5 +1,5 @@
 use borrow.Author.Tests.{not-true, not-false}
-use Rattle.masks.specs.Pick.{pick-true, pick-false}
+use Rattle.masks.specs.PickLaws.{pick-true, pick-false}
 use Rattle.rules.specs.Rules.{onBus}
 use Rattle.bus_steps.specs.Code.{dueOf}
 use borrow.Author.Needs.{needs}

@@ -1,4 +1,4 @@
-use Rattle.masks.specs.Pick.{pick-true, pick-false}
+use Rattle.masks.specs.PickLaws.{pick-true, pick-false}
 use Rattle.rules.specs.Rules.{onBus}
 use borrow.Author.Needs.{needs}
 use Rattle.bus_steps.proofs.on_fault.Statement.{statement}

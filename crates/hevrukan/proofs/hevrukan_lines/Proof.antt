@@ -50,10 +50,10 @@ use Rattle.controller.proofs.Controller.lines as lines
 use Rattle.controller.proofs.Controller.lines.Symbol as lines-def
 use Rattle.controller.proofs.Controller.lines.Symbol.{name as #lines}
 use Rattle.controller.proofs.Controller.lines.Met as lines-thm
-use Rattle.numbers.proofs.answers.wide as wide
-use Rattle.numbers.proofs.answers.wide.Symbol as wide-def
-use Rattle.numbers.proofs.answers.wide.Symbol.{name as #wide}
-use Rattle.numbers.proofs.answers.wide.Met as wide-thm
+use Rattle.encoding.proofs.answers.wide as wide
+use Rattle.encoding.proofs.answers.wide.Symbol as wide-def
+use Rattle.encoding.proofs.answers.wide.Symbol.{name as #wide}
+use Rattle.encoding.proofs.answers.wide.Met as wide-thm
 use Rattle.hevrukan.proofs.hevrukan_lines.Key.{name as #this}
 use Rattle.hevrukan.proofs.hevrukan_lines as this
 use Rattle.hevrukan.proofs.hevrukan_lines.Statement as stated
@@ -199,8 +199,7 @@ module _ {M : Type 1} (𝓤 : URA M) (H : Heap 𝓤) (A : Atoms 𝓤) (W : Given
   goes : AllGo 𝓤 H A W 1 (this.signature .params) (this.ended .kept) stayed
   goes = (goes-none-ref 𝓤 H A W 1 (0 ∷ []) tt (plain (λ _. T.the-row)) yes, (goes-none 𝓤 H A W 1 (λ _. usize) yes (λ κs x f. refl), tt))
 
-meets : {M : Type 1} (𝓤 : URA M) (H : Heap 𝓤) (A : Atoms 𝓤) → Given 𝓤 H A → (at-mem : Memory → SProp 𝓤) (run : Routine → Fun 𝓤) (𝓣 : Tables 𝓤 H) → Triple 𝓤 (𝓣 .C #lines) (Lines 𝓤 H A at-mem run) → Triple 𝓤 (𝓣 .C #wide) (Wide 𝓤 H A at-mem run)
-    → Meets 𝓤 H A this.signature (WpFn 𝓤 H (𝓣 .C) (𝓣 .Λ) code.function) (this.spec 𝓤 H A at-mem run)
+meets : {M : Type 1} (𝓤 : URA M) (H : Heap 𝓤) (A : Atoms 𝓤) → Given 𝓤 H A → (at-mem : Memory → SProp 𝓤) (run : Routine → Fun 𝓤) (𝓣 : Tables 𝓤 H) → Triple 𝓤 (𝓣 .C #lines) (Lines 𝓤 H A at-mem run) → Triple 𝓤 (𝓣 .C #wide) (Wide 𝓤 H A at-mem run) → Meets 𝓤 H A this.signature (WpFn 𝓤 H (𝓣 .C) (𝓣 .Λ) code.function) (this.spec 𝓤 H A at-mem run)
 meets 𝓤 H A W at-mem run 𝓣 known-lines known-wide = walk-meets 𝓤 H A this.ended stayed W (goes 𝓤 H A W at-mem run) (this.clauses 𝓤 H A at-mem run) (WpFn 𝓤 H (𝓣 .C) (𝓣 .Λ) code.function) (WpFn-mono 𝓤 H (W .laws) 𝓣 code.function)
     (walks 𝓤 H A W at-mem run (𝓣 .C) (𝓣 .Λ) (fmOf 𝓤 H (W .laws) 𝓣) known-lines known-wide)
 
@@ -211,4 +210,4 @@ hevrukan-lines-spec 𝓤 H 𝓜 𝓖 𝓡 =
     (tables 𝓤 H 𝓜 𝓡 code.env .C) (tables 𝓤 H 𝓜 𝓡 code.env .Λ) #this code.function (code.unfolded 𝓤 H 𝓜 𝓡)
     (meets 𝓤 H (𝓖 .A) (givenOf 𝓤 H 𝓜 𝓖) (𝓜 .mem) (𝓡 .run) (tablesOf 𝓤 H 𝓜 (tables 𝓤 H 𝓜 𝓡 code.env))
     (cited 𝓤 H (Lines 𝓤 H (𝓖 .A) (𝓜 .mem) (𝓡 .run)) 𝓜 𝓡 code.env #lines lines-def.routine code.calls-controller·Controller·lines (lines-thm.met 𝓤 H 𝓜 𝓖 𝓡))
-    (cited 𝓤 H (Wide 𝓤 H (𝓖 .A) (𝓜 .mem) (𝓡 .run)) 𝓜 𝓡 code.env #wide wide-def.routine code.calls-numbers·answers·wide (wide-thm.met 𝓤 H 𝓜 𝓖 𝓡)))
+    (cited 𝓤 H (Wide 𝓤 H (𝓖 .A) (𝓜 .mem) (𝓡 .run)) 𝓜 𝓡 code.env #wide wide-def.routine code.calls-encoding·answers·wide (wide-thm.met 𝓤 H 𝓜 𝓖 𝓡)))

@@ -1,4 +1,4 @@
-use Rattle.masks.specs.Pick.{pick-true, pick-false}
+use Rattle.masks.specs.PickLaws.{pick-true, pick-false}
 use Rattle.rules.specs.Kinds.{fifoHolder}
 use Rattle.kinds.proofs.fifo_holder.Statement.{statement}
 use Rattle.kinds.proofs.fifo_holder.Tie as tie

@@ -1,6 +1,6 @@
 use native.Mathlib.Omega.{arith}
 use borrow.Author.Needs.{needs}
-use Rattle.masks.specs.Layout.{layout-then, layout-else}
+use Rattle.masks.specs.LayoutLaws.{layout-then, layout-else}
 use Rattle.rules.specs.Kinds.{isLawful}
 use Rattle.kinds.proofs.is_lawful.Statement.{statement}
 use Rattle.kinds.proofs.is_lawful.Tie as tie

@@ -4,7 +4,7 @@ use mathlib.Core.Logic.{⊎-elim}
 use native.Mathlib.Omega.{arith}
 use borrow.Author.Tests.{ltb-true, le-ltb}
 use borrow.Author.Needs.{needs}
-use Rattle.masks.specs.Pick.{pick-true, pick-false}
+use Rattle.masks.specs.PickLaws.{pick-true, pick-false}
 use Rattle.rules.specs.Kinds.{placeAfter}
 use Rattle.kinds.proofs.place_after.Statement.{statement}
 use Rattle.kinds.proofs.place_after.Tie as tie

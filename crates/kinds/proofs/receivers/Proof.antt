@@ -9,9 +9,7 @@ below-requires : tie.Need-below-requires
 below-requires c κs = search needs
 
 returns : tie.Need-returns
-returns c =
-    let b = c .before .before .before .before .args .c .buffers in
-    and-by _ _ _ _ (not-by-mask _ _ (own (b .cfg) (omega arith))) (from-on _ _ (c .below .ensures))
+returns c = and-by _ _ _ _ (not-by-mask _ _ (own _ (omega arith))) (from-on _ _ (c .below .ensures))
 
 pub receivers-spec : {M : Type 1} → statement M
 receivers-spec = tie.close (tie.spec below-requires returns)

@@ -1,6 +1,6 @@
 use borrow.Author.Tests.{lt-ltb, le-ltb}
 use borrow.Author.Needs.{needs}
-use Rattle.masks.specs.Pick.{pick-true, pick-false}
+use Rattle.masks.specs.PickLaws.{pick-true, pick-false}
 use Rattle.lines.specs.Grammar.{byteOf}
 use Rattle.lines.proofs.byte.Statement.{statement}
 use Rattle.lines.proofs.byte.Tie as tie

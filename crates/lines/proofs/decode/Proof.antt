@@ -10,7 +10,8 @@ use lib.Seq.{drop-cons}
 use denote.Ref.{now}
 use borrow.Author.Tests.{lt-ltb, le-ltb}
 use borrow.Author.Needs.{needs}
-use Rattle.masks.specs.Pick.{pick, pick-true, pick-false}
+use Rattle.masks.specs.Pick.{pick}
+use Rattle.masks.specs.PickLaws.{pick-true, pick-false}
 use Rattle.lines.specs.declared.Line.the-variants.{Unread}
 use Rattle.lines.specs.Grammar.{decodeFrom, byteOf, plainOf}
 use Rattle.lines.proofs.decode.Statement.{statement}

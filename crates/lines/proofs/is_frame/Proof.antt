@@ -1,6 +1,6 @@
 use borrow.Author.Tests.{lt-ltb, le-ltb, eq-eqb, ne-eqb}
 use borrow.Author.Needs.{needs}
-use Rattle.masks.specs.Pick.{pick-true, pick-false}
+use Rattle.masks.specs.PickLaws.{pick-true, pick-false}
 use Rattle.lines.specs.Grammar.{isFrame}
 use Rattle.lines.proofs.is_frame.Statement.{statement}
 use Rattle.lines.proofs.is_frame.Tie as tie

@@ -1,5 +1,5 @@
 use borrow.Author.Tests.{eq-eqb, ne-eqb}
-use Rattle.masks.specs.Pick.{pick-true, pick-false}
+use Rattle.masks.specs.PickLaws.{pick-true, pick-false}
 use Rattle.lines.specs.Grammar.{oneOf}
 use Rattle.lines.proofs.one.Statement.{statement}
 use Rattle.lines.proofs.one.Tie as tie

@@ -8,7 +8,7 @@ use lib.Seq.{take-all}
 use denote.Ref.{now}
 use borrow.Author.Tests.{le-ltb}
 use borrow.Author.Needs.{needs}
-use Rattle.masks.specs.Pick.{pick-true, pick-false}
+use Rattle.masks.specs.PickLaws.{pick-true, pick-false}
 use Rattle.lines.specs.Grammar.{lineOf}
 use Rattle.lines.specs.Laws.{over-unread, begun-length}
 use Rattle.lines.proofs.parse.Statement.{statement}

@@ -1,4 +1,4 @@
-use Rattle.masks.specs.Search.{some-bit}
+use Rattle.masks.specs.SearchLaws.{some-bit}
 use Rattle.masks.proofs.any.Statement.{statement}
 use Rattle.masks.proofs.any.Tie as tie
 

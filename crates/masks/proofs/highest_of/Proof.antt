@@ -3,7 +3,7 @@ use mathlib.Core.Path.{_≡_, refl, ap, sym, _∙_}
 use native.Mathlib.Omega.{arith}
 use borrow.Author.Needs.{needs}
 use Rattle.masks.specs.Bits.{bitOf, highest}
-use Rattle.masks.specs.Search.{highest-hit, highest-miss, highest-end}
+use Rattle.masks.specs.SearchLaws.{highest-hit, highest-miss, highest-end}
 use Rattle.masks.proofs.highest_of.Statement.{statement}
 use Rattle.masks.proofs.highest_of.Tie as tie
 

@@ -3,7 +3,7 @@ use mathlib.Core.Path.{_≡_, refl, sym, _∙_}
 use native.Mathlib.Omega.{arith}
 use borrow.Author.Needs.{needs}
 use Rattle.masks.specs.Bits.{bitOf, lowest}
-use Rattle.masks.specs.Search.{lowest-hit, lowest-miss, lowest-end}
+use Rattle.masks.specs.SearchLaws.{lowest-hit, lowest-miss, lowest-end}
 use Rattle.masks.proofs.lowest_of.Statement.{statement}
 use Rattle.masks.proofs.lowest_of.Tie as tie
 

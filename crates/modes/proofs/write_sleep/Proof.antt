@@ -1,5 +1,5 @@
 use borrow.Author.Needs.{needs}
-use Rattle.masks.specs.Pick.{pick-true, pick-false}
+use Rattle.masks.specs.PickLaws.{pick-true, pick-false}
 use Rattle.rules.specs.Modes.{writeSleep}
 use Rattle.modes.proofs.write_sleep.Statement.{statement}
 use Rattle.modes.proofs.write_sleep.Tie as tie

@@ -5,7 +5,7 @@ use lib.ListN.{length, getD, length-set}
 use Rattle.pieces.specs.declared.Held.{Held}
 use Rattle.pieces.specs.declared.Gathered.{Gathered}
 use borrow.Author.Needs.{needs}
-use Rattle.pieces.specs.Gather.{gatherFrom}
+use Rattle.pieces.specs.CodeGather.{gatherFrom}
 use Rattle.pieces.specs.GatherLaws.{gather-is, push-room, push-full, from-end, from-lf, from-byte}
 use Rattle.pieces.proofs.gather.Statement.{statement}
 use Rattle.pieces.proofs.gather.Tie as tie

@@ -4,7 +4,7 @@ use lib.ListN.{getD}
 use Rattle.pieces.specs.declared.Gathered.{Gathered}
 use borrow.Author.Needs.{needs}
 use Rattle.pieces.specs.Feed.{noneHeld, pushOf}
-use Rattle.pieces.specs.Gather.{gatherFrom}
+use Rattle.pieces.specs.CodeGather.{gatherFrom}
 use Rattle.pieces.specs.GatherLaws.{gather-is, at-any, from-end, from-lf, from-byte}
 use Rattle.pieces.proofs.line_end.Statement.{statement}
 use Rattle.pieces.proofs.line_end.Tie as tie

@@ -1,7 +1,7 @@
 use mathlib.Core.Path.{sym}
 use borrow.Author.Tests.{lt-ltb, le-ltb}
 use borrow.Author.Needs.{needs}
-use Rattle.masks.specs.Pick.{pick-true, pick-false}
+use Rattle.masks.specs.PickLaws.{pick-true, pick-false}
 use Rattle.pieces.specs.Feed.{numberAfter}
 use Rattle.pieces.proofs.number_after.Statement.{statement}
 use Rattle.pieces.proofs.number_after.Tie as tie

@@ -1,5 +1,6 @@
+use native.Mathlib.Omega.{arith}
 use borrow.Author.Tests.{lt-ltb, le-ltb}
-use Rattle.masks.specs.Pick.{pick-true, pick-false}
+use Rattle.masks.specs.PickLaws.{pick-true, pick-false}
 use Rattle.refusals.proofs.RefusalLaws.{control-write}
 use borrow.Author.Needs.{needs}
 use Rattle.refusals.proofs.control_write_refusal.Statement.{statement}
@@ -9,14 +10,17 @@ returns : tie.Need-returns
 returns c = simp (control-write, pick-true, lt-ltb _ _ (c .if1 .taken))
 
 returns-2 : tie.Need-returns-2
-returns-2 c = simp (control-write, pick-true, pick-false, c .if2 .taken, le-ltb _ _ (c .before .if1 .left))
+returns-2 c =
+    let n = c .before .before .args .n in
+    simp (control-write, pick-true, pick-false, c .if2 .taken, le-ltb 15 n (omega (arith, c .before .if1 .left)))
 
 control-refusal-requires : tie.Need-control-refusal-requires
 control-refusal-requires c κs = search needs
 
 returns-3 : tie.Need-returns-3
 returns-3 c =
-    simp (control-write, pick-false, ← (c .control-refusal .ensures), c .before .if2 .left, le-ltb _ _ (c .before .before .if1 .left))
+    let n = c .before .before .before .args .n in
+    simp (control-write, pick-false, ← (c .control-refusal .ensures), c .before .if2 .left, le-ltb 15 n (omega (arith, c .before .before .if1 .left)))
 
 pub control-write-refusal-spec : {M : Type 1} → statement M
 control-write-refusal-spec =

@@ -1,5 +1,5 @@
 use borrow.Author.Tests.{lt-ltb, le-ltb}
-use Rattle.masks.specs.Pick.{pick-true, pick-false}
+use Rattle.masks.specs.PickLaws.{pick-true, pick-false}
 use Rattle.refusals.specs.Code.{lockRefusal}
 use borrow.Author.Needs.{needs}
 use Rattle.refusals.proofs.lock_refusal.Statement.{statement}

@@ -1,4 +1,4 @@
-use Rattle.masks.specs.Pick.{pick-true, pick-false}
+use Rattle.masks.specs.PickLaws.{pick-true, pick-false}
 use Rattle.refusals.specs.Code.{lowRefusal}
 use borrow.Author.Needs.{needs}
 use Rattle.refusals.proofs.low_refusal.Statement.{statement}

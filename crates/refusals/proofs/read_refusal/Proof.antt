@@ -1,6 +1,6 @@
 use borrow.Author.Tests.{lt-ltb, le-ltb}
 use borrow.Author.Needs.{needs}
-use Rattle.masks.specs.Pick.{pick-true, pick-false}
+use Rattle.masks.specs.PickLaws.{pick-true, pick-false}
 use Rattle.refusals.proofs.RefusalLaws.{read-order}
 use Rattle.refusals.proofs.read_refusal.Statement.{statement}
 use Rattle.refusals.proofs.read_refusal.Tie as tie

@@ -5,13 +5,13 @@ use Rattle.replay.proofs.replay.Statement.{statement}
 use Rattle.replay.proofs.replay.Tie as tie
 
 abbrev Inv-loop : tie.InvT-loop
-Inv-loop fd piece₀ out₀ w session₀ turns₀ piece out session turns = (length piece ≡ 1024) × (length out ≡ 65536)
+Inv-loop fd piece₀ out₀ w session₀ turns₀ piece out session turns = (length piece ≡ 8192) × (length out ≡ 524288)
 
 abbrev μ-loop : tie.MeasureT-loop
 μ-loop fd piece₀ out₀ w session₀ turns₀ piece out session turns = turns
 
-large-buffer-requires : tie.Need-large-buffer-requires Inv-loop μ-loop
-large-buffer-requires c κs = search needs
+rows-room-requires : tie.Need-rows-room-requires Inv-loop μ-loop
+rows-room-requires c κs = search needs
 
 slice-aggregate-begin : tie.Need-slice-aggregate-begin Inv-loop μ-loop
 slice-aggregate-begin c = search needs
@@ -73,7 +73,7 @@ replay-spec =
     (tie.spec
     Inv-loop
     μ-loop
-    large-buffer-requires
+    rows-room-requires
     slice-aggregate-begin
     begin-requires
     array-share-prefix-out

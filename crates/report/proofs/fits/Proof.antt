@@ -3,7 +3,7 @@ use native.Mathlib.Omega.{arith}
 use mathlib.Core.Path.{sym, _∙_}
 use lib.Dec.{leb}
 use borrow.Author.Tests.{leb-true, leb-false, le-leb, lt-leb}
-use Rattle.masks.specs.Pick.{by-test}
+use Rattle.masks.specs.PickLaws.{by-test}
 use Rattle.report.proofs.fits.Statement.{statement}
 use Rattle.report.proofs.fits.Tie as tie
 

@@ -1,6 +1,6 @@
 use mathlib.Core.Path.{sym, _∙_}
 use Rattle.contents.specs.declared.Contents.{Contents}
-use Rattle.contents.specs.Payload.{frame-size}
+use Rattle.contents.specs.PayloadLaws.{frame-size}
 use borrow.Author.Needs.{needs}
 use Rattle.sending.proofs.frame_size.Statement.{statement}
 use Rattle.sending.proofs.frame_size.Tie as tie

@@ -4,8 +4,8 @@ use native.Mathlib.Omega.{arith}
 use borrow.Author.Needs.{needs}
 use lib.ListN.{length, getD, length-set}
 use Rattle.contents.specs.declared.Contents.{Contents}
-use Rattle.contents.specs.Payload.{frame-size}
-use Rattle.sending.specs.Room.{room-kept, room-filled}
+use Rattle.contents.specs.PayloadLaws.{frame-size}
+use Rattle.sending.specs.CodeRoom.{room-kept, room-filled}
 use Rattle.contents.proofs.Copy.{copied, copied-none}
 use Rattle.sending.proofs.Laws.{room-more, room-copied}
 use Rattle.sending.proofs.send.Statement.{statement}

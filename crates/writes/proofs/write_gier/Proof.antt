@@ -1,4 +1,4 @@
-use Rattle.masks.specs.Pick.{pick-true, pick-false}
+use Rattle.masks.specs.PickLaws.{pick-true, pick-false}
 use Rattle.rules.specs.Writes.{writeGier}
 use Rattle.writes.proofs.write_gier.Statement.{statement}
 use Rattle.writes.proofs.write_gier.Tie as tie

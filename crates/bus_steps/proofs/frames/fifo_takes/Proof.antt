@@ -1,7 +1,7 @@
 use mathlib.Core.Path.{_∙_}
 use mathlib.Core.Logic.{⊎-elim}
 use borrow.Author.Tests.{lt-ltb, le-ltb}
-use Rattle.masks.specs.Search.{never-both}
+use Rattle.masks.specs.SearchLaws.{never-both}
 use Rattle.rules.specs.Bus.{fifoTakes}
 use borrow.Author.Needs.{needs}
 use Rattle.bus_steps.proofs.frames.fifo_takes.Statement.{statement}

@@ -1,37 +1,37 @@
 use mathlib.Core.Logic.{⊎-elim}
 use mathlib.Core.Path.{ap, _∙_}
 use borrow.Author.Tests.{lt-ltb, le-ltb}
-use Rattle.masks.specs.Pick.{pick-true, pick-false}
+use Rattle.masks.specs.PickLaws.{pick-true, pick-false}
 use Rattle.rules.specs.Bus.{found, judged}
-use Rattle.bus_steps.specs.Marks.{ignored, bad, ruledBy, ignored-ruled, bad-ruled}
+use Rattle.bus_steps.specs.CodeMarks.{ignored, ruledBy, ignored-ruled, bad-ruled}
 use borrow.Author.Needs.{needs}
 use Rattle.bus_steps.proofs.frames.judged.Statement.{statement}
 use Rattle.bus_steps.proofs.frames.judged.Tie as tie
 
-decided-requires : tie.Need-decided-requires
-decided-requires c κs = search needs
+unmarked-requires : tie.Need-unmarked-requires
+unmarked-requires c κs = search needs
 
 returns : tie.Need-returns
 unfolding judged
 returns c =
     let a = c .before .before .before .args in
-    ap (ruledBy (a .c) (a .i)) {y = ignored} (c .decided .ensures)
+    ap (ruledBy (a .c) (a .i)) {y = ignored} (c .unmarked .ensures)
     ∙ ignored-ruled (a .c) (a .i)
     ∙ simp (pick-true, c .before .if1 .taken)
 
-decided-requires-2 : tie.Need-decided-requires-2
-decided-requires-2 c κs = search needs
+unmarked-requires-2 : tie.Need-unmarked-requires-2
+unmarked-requires-2 c κs = search needs
 
 returns-2 : tie.Need-returns-2
 unfolding judged
 returns-2 c =
     let a = c .before .before .before .before .args in
-    ap (ruledBy (a .c) (a .i)) {y = bad} (c .decided2 .ensures)
-    ∙ bad-ruled (a .c) (a .i)
+    simp (c .unmarked2 .ensures)
+    (bad-ruled (a .c) (a .i)
     ∙ ⊎-elim
     (λ w. simp (pick-true, pick-false, w .taken, c .before .before .if1 .left))
     (λ w. simp (pick-true, pick-false, w .0 .left, w .1 .taken, c .before .before .if1 .left))
-    (c .before .if2 .came)
+    (c .before .if2 .came))
 
 to-buffer-requires : tie.Need-to-buffer-requires
 to-buffer-requires c κs = search needs
@@ -56,9 +56,9 @@ pub judged-spec : {M : Type 1} → statement M
 judged-spec =
     tie.close
     (tie.spec
-    decided-requires
+    unmarked-requires
     returns
-    decided-requires-2
+    unmarked-requires-2
     returns-2
     to-buffer-requires
     returns-3

@@ -1,22 +1,38 @@
-use Rattle.masks.specs.Pick.{pick-true, pick-false}
-use Rattle.bus_steps.specs.Marks.{marked}
+use Rattle.masks.specs.PickLaws.{pick-true}
+use Rattle.bus_steps.specs.CodeMarks.{base, marked, marked-base}
 use borrow.Author.Needs.{needs}
 use Rattle.bus_steps.proofs.frames.marked.Statement.{statement}
 use Rattle.bus_steps.proofs.frames.marked.Tie as tie
 
-with-marks-requires : tie.Need-with-marks-requires
-with-marks-requires c κs = search needs
+risen-requires : tie.Need-risen-requires
+risen-requires c κs = search needs
+
+entered-requires : tie.Need-entered-requires
+entered-requires c κs = search needs
 
 wake-requires : tie.Need-wake-requires
 wake-requires c κs = search needs
 
 returns : tie.Need-returns
-unfolding marked
-returns c = simp (pick-true, ← (c .wake .ensures), c .before .if1 .taken, ← (c .before .before .with-marks .ensures))
+unfolding marked base
+returns c =
+    let at = c .before .before .before .before .before in
+    simp (
+      pick-true,
+      ← (c .wake .ensures),
+      c .before .if1 .taken,
+      ← (at .entered .ensures),
+      ← (at .before .before .before .before .before .risen .ensures),
+    )
 
 returns-2 : tie.Need-returns-2
-unfolding marked
-returns-2 c = simp (pick-false, c .if1 .left, ← (c .before .with-marks .ensures))
+unfolding base
+returns-2 c =
+    let at = c .before .before .before .before in
+    let risen = at .before .before .before .before .before in
+    let a = risen .before .args in
+    simp
+    (marked-base (a .c) (a .o) (a .i) (c .if1 .left), ← (at .entered .ensures), ← (risen .risen .ensures))
 
 pub marked-spec : {M : Type 1} → statement M
-marked-spec = tie.close (tie.spec with-marks-requires wake-requires returns returns-2)
+marked-spec = tie.close (tie.spec risen-requires entered-requires wake-requires returns returns-2)

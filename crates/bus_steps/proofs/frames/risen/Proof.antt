@@ -1,19 +1,25 @@
-use Rattle.masks.specs.Pick.{pick-true, pick-false}
-use Rattle.bus_steps.specs.Marks.{risen}
-use borrow.Author.Needs.{needs}
+use mathlib.Core.Logic.{⊎-elim}
+use native.Mathlib.Omega.{arith}
+use borrow.Author.Tests.{ltb-true, ltb-false}
+use Rattle.masks.specs.PickLaws.{pick-true, pick-false}
+use Rattle.bus_steps.specs.CodeMarks.{risen}
 use Rattle.bus_steps.proofs.frames.risen.Statement.{statement}
 use Rattle.bus_steps.proofs.frames.risen.Tie as tie
 
-larger-requires : tie.Need-larger-requires
-larger-requires c κs = search needs
-
 returns : tie.Need-returns
 unfolding risen
-returns c = simp (pick-true, ← (c .larger .ensures), c .before .if1 .taken)
+returns c =
+    let a = c .before .before .args in
+    simp (pick-true, c .before .if1 .taken) (omega (arith, ltb-true (a .last) (a .i) (c .if2 .taken)))
 
 returns-2 : tie.Need-returns-2
 unfolding risen
-returns-2 c = simp (pick-false, c .if1 .left)
+returns-2 c =
+    let a = c .before .args in
+    ⊎-elim
+    (λ w. simp (pick-true, w .0 .taken) (omega (arith, ltb-false (a .last) (a .i) (w .1 .left))))
+    (λ w. simp (pick-false, w .left))
+    (c .if1 .came)
 
 pub risen-spec : {M : Type 1} → statement M
-risen-spec = tie.close (tie.spec larger-requires returns returns-2)
+risen-spec = tie.close (tie.spec returns returns-2)

@@ -1,4 +1,4 @@
-use Rattle.masks.specs.Pick.{pick-true, pick-false}
+use Rattle.masks.specs.PickLaws.{pick-true, pick-false}
 use Rattle.rules.specs.Bus.{sendFrom}
 use borrow.Author.Needs.{needs}
 use Rattle.bus_steps.proofs.slots.send_from.Statement.{statement}

@@ -1,6 +1,6 @@
 use mathlib.Core.Logic.{⊎-elim}
 use borrow.Author.Tests.{lt-ltb, le-ltb}
-use Rattle.masks.specs.Pick.{pick-true, pick-false}
+use Rattle.masks.specs.PickLaws.{pick-true, pick-false}
 use Rattle.rules.specs.Bus.{slotFor}
 use borrow.Author.Needs.{needs}
 use Rattle.bus_steps.proofs.slots.slot_for.Statement.{statement}

@@ -1,4 +1,4 @@
-use Rattle.masks.specs.Pick.{pick-true, pick-false}
+use Rattle.masks.specs.PickLaws.{pick-true, pick-false}
 use Rattle.bus_steps.proofs.syncs.due_kind.Statement.{statement}
 use Rattle.bus_steps.proofs.syncs.due_kind.Tie as tie
 

@@ -1,16 +1,34 @@
-use mathlib.Core.Path.{_∙_}
+use mathlib.Core.Path.{refl, ap}
 use borrow.Author.Needs.{needs}
+use Rattle.controller.specs.Carry.{rowAt}
+use Rattle.controller.proofs.RegisterLaws.{sixteen-rows}
 use Rattle.controller.proofs.Controller.read.Statement.{statement}
 use Rattle.controller.proofs.Controller.read.Tie as tie
 
-plan-read-requires : tie.Need-plan-read-requires
-plan-read-requires c κs = search needs
+window-row-requires : tie.Need-window-row-requires
+window-row-requires c κs = search needs
 
-carried-requires : tie.Need-carried-requires
-carried-requires c κs = search needs
+mul-row : tie.Need-mul-row
+mul-row c = search needs
+
+element-copy-out-row : tie.Need-element-copy-out-row
+element-copy-out-row c = search needs
+
+read-answer-requires : tie.Need-read-answer-requires
+read-answer-requires c κs = search needs
 
 returns : tie.Need-returns
-returns c = c .carried .ensures ∙ c .before .plan-read .ensures
+returns c =
+    let start = c .before .before .before .before in
+    let self = start .args .t1 in
+    c .read-answer .ensures self refl (sixteen-rows self _ (start .good .0)) (ap (rowAt (self .rows)) (c .before .before .window-row .ensures))
 
 pub read-spec : {M : Type 1} → statement M
-read-spec = tie.close (tie.spec plan-read-requires carried-requires returns)
+read-spec =
+    tie.close
+    (tie.spec
+    window-row-requires
+    mul-row
+    element-copy-out-row
+    read-answer-requires
+    returns)

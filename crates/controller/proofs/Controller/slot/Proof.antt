@@ -1,10 +1,30 @@
-use mathlib.Core.Path.{_∙_}
+use mathlib.Core.Path.{refl, sym, ap, _∙_}
+use native.Mathlib.Omega.{arith}
+use lib.ListN.{length-map}
 use borrow.Author.Needs.{needs}
+use Rattle.controller.specs.Carry.{rowAt}
+use Rattle.controller.specs.CodeLaws.{row-within}
 use Rattle.controller.proofs.Controller.slot.Statement.{statement}
 use Rattle.controller.proofs.Controller.slot.Tie as tie
 
-plan-slot-requires : tie.Need-plan-slot-requires
-plan-slot-requires c κs = search needs
+slot-ruling-requires : tie.Need-slot-ruling-requires
+slot-ruling-requires c κs = search needs
+
+row-of-requires : tie.Need-row-of-requires
+row-of-requires c κs = search needs
+
+mul-row : tie.Need-mul-row
+mul-row c =
+    let h = row-within (c .before .slot-ruling .result .verdict) in
+    omega (arith, c .row-of .ensures)
+
+element-copy-out-row : tie.Need-element-copy-out-row
+element-copy-out-row c =
+    let h = row-within (c .before .slot-ruling .result .verdict) in
+    omega (arith, c .row-of .ensures)
+
+slot-change-requires : tie.Need-slot-change-requires
+slot-change-requires c κs = search needs
 
 carried-requires : tie.Need-carried-requires
 carried-requires c κs = search needs
@@ -13,7 +33,27 @@ same-length : tie.Need-same-length
 same-length c = search needs
 
 returns : tie.Need-returns
-returns c = let x = c .before .before .before .plan-slot .ensures in (c .carried .ensures ∙ x .0, x .1)
+returns c =
+    let start = c .before .before .before .before .before .before .before .before .before in
+    let self = start .args .t1 in
+    let room = start .args .room .now in
+    let sixteen = sym (length-map (self .rows) _) ∙ start .good .0 .1 .1 .1 .0 .1 .0 .1 in
+    let same = ap (rowAt (self .rows)) (c .before .before .before .before .before .before .row-of .ensures) in
+    let r = c .before .before .before .before .before .before .before .slot-ruling .ensures in
+    let x = c .before .before .before .slot-change .ensures in (
+      c .carried .ensures ∙ x .0 self sixteen same ∙ r .0 room refl,
+      x .1 self same ∙ r .1 room refl,
+    )
 
 pub slot-spec : {M : Type 1} → statement M
-slot-spec = tie.close (tie.spec plan-slot-requires carried-requires same-length returns)
+slot-spec =
+    tie.close
+    (tie.spec
+    slot-ruling-requires
+    row-of-requires
+    mul-row
+    element-copy-out-row
+    slot-change-requires
+    carried-requires
+    same-length
+    returns)

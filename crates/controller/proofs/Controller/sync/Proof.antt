@@ -3,14 +3,14 @@ use borrow.Author.Needs.{needs}
 use Rattle.controller.proofs.Controller.sync.Statement.{statement}
 use Rattle.controller.proofs.Controller.sync.Tie as tie
 
-plan-sync-requires : tie.Need-plan-sync-requires
-plan-sync-requires c κs = search needs
+sync-requires : tie.Need-sync-requires
+sync-requires c κs = search needs
 
 carried-requires : tie.Need-carried-requires
 carried-requires c κs = search needs
 
 returns : tie.Need-returns
-returns c = c .carried .ensures ∙ c .before .plan-sync .ensures
+returns c = c .carried .ensures ∙ c .before .sync .ensures
 
 pub sync-spec : {M : Type 1} → statement M
-sync-spec = tie.close (tie.spec plan-sync-requires carried-requires returns)
+sync-spec = tie.close (tie.spec sync-requires carried-requires returns)

@@ -3,14 +3,14 @@ use borrow.Author.Needs.{needs}
 use Rattle.controller.proofs.Controller.timeout.Statement.{statement}
 use Rattle.controller.proofs.Controller.timeout.Tie as tie
 
-plan-timeout-requires : tie.Need-plan-timeout-requires
-plan-timeout-requires c κs = search needs
+timeout-requires : tie.Need-timeout-requires
+timeout-requires c κs = search needs
 
 carried-requires : tie.Need-carried-requires
 carried-requires c κs = search needs
 
 returns : tie.Need-returns
-returns c = c .carried .ensures ∙ c .before .plan-timeout .ensures
+returns c = c .carried .ensures ∙ c .before .timeout .ensures
 
 pub timeout-spec : {M : Type 1} → statement M
-timeout-spec = tie.close (tie.spec plan-timeout-requires carried-requires returns)
+timeout-spec = tie.close (tie.spec timeout-requires carried-requires returns)

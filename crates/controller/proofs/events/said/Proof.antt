@@ -1,7 +1,7 @@
 use mathlib.Core.Path.{ap, _∙_}
 use borrow.Author.Needs.{needs}
 use Rattle.rules.specs.declared.Control.{Control}
-use Rattle.controller.specs.CodeLaws.{saying}
+use Rattle.controller.specs.Code.{saying}
 use Rattle.controller.proofs.events.said.Statement.{statement}
 use Rattle.controller.proofs.events.said.Tie as tie
 

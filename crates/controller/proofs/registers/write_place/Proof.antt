@@ -1,6 +1,6 @@
 use borrow.Author.Tests.{eq-eqb, ne-eqb}
 use borrow.Author.Needs.{needs}
-use Rattle.masks.specs.Pick.{pick-true, pick-false}
+use Rattle.masks.specs.PickLaws.{pick-true, pick-false}
 use Rattle.controller.specs.Code.{writePlace}
 use Rattle.controller.proofs.registers.write_place.Statement.{statement}
 use Rattle.controller.proofs.registers.write_place.Tie as tie

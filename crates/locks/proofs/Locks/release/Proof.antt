@@ -1,5 +1,5 @@
 use borrow.Author.Tests.{eq-eqb, ne-eqb}
-use Rattle.masks.specs.Pick.{pick-true, pick-false}
+use Rattle.masks.specs.PickLaws.{pick-true, pick-false}
 use Rattle.locks.specs.Pair.{releaseLock}
 use Rattle.locks.proofs.Locks.release.Statement.{statement}
 use Rattle.locks.proofs.Locks.release.Tie as tie

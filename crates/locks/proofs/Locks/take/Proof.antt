@@ -1,5 +1,5 @@
 use borrow.Author.Tests.{lt-ltb, le-ltb}
-use Rattle.masks.specs.Pick.{pick-true, pick-false}
+use Rattle.masks.specs.PickLaws.{pick-true, pick-false}
 use Rattle.locks.specs.Pair.{takeLock}
 use Rattle.locks.proofs.Locks.take.Statement.{statement}
 use Rattle.locks.proofs.Locks.take.Tie as tie

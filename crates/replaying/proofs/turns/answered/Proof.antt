@@ -4,7 +4,7 @@ use mathlib.Core.Path.{sym, _∙_}
 use denote.Ref.{now}
 use lib.ListN.{length}
 use lib.Seq.{length-take-le}
-use Rattle.replaying.specs.Sent.{size-le}
+use Rattle.replaying.specs.SentLaws.{size-le}
 use Rattle.replaying.specs.TurnLaws.{answers}
 use borrow.Author.Needs.{needs}
 use Rattle.replaying.proofs.turns.answered.Statement.{statement}

@@ -2,7 +2,7 @@ use Prim.Native.Nat.{_-_}
 use native.Mathlib.Omega.{arith}
 use mathlib.Core.Path.{_≡_, refl, _∙_}
 use lib.ListN.{length}
-use Rattle.replaying.specs.Turn.{Seeking}
+use Rattle.replaying.specs.CodeTurn.{Seeking}
 use Rattle.replaying.specs.SeekLaws.{seeking-none, seeks-from, seeks-end, seeks-rest, at-low, seeks-due, seeking-more, seeking-nearer}
 use borrow.Author.Needs.{needs}
 use Rattle.replaying.proofs.turns.seek.Statement.{statement}

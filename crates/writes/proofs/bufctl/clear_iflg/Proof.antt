@@ -1,5 +1,5 @@
 use borrow.Author.Needs.{needs}
-use Rattle.masks.specs.Pick.{pick-true, pick-false}
+use Rattle.masks.specs.PickLaws.{pick-true, pick-false}
 use Rattle.writes.proofs.bufctl.clear_iflg.Statement.{statement}
 use Rattle.writes.proofs.bufctl.clear_iflg.Tie as tie
 

@@ -1,9 +1,11 @@
 use borrow.Author.Needs.{needs}
-use borrow.Author.Tests.{eq-eqb, ne-eqb}
-use Rattle.masks.specs.Pick.{pick-true, pick-false}
+use Rattle.masks.specs.PickLaws.{pick-true, pick-false}
 use Rattle.rules.specs.Writes.{writeLock}
 use Rattle.writes.proofs.bufctl.write_lock.Statement.{statement}
 use Rattle.writes.proofs.bufctl.write_lock.Tie as tie
+
+has-requires : tie.Need-has-requires
+has-requires c κs = search needs
 
 is-locked-requires : tie.Need-is-locked-requires
 is-locked-requires c κs = search needs
@@ -12,7 +14,7 @@ returns : tie.Need-returns
 unfolding writeLock
 returns c =
     simp
-    (pick-true, c .if2 .taken, ← (c .before .is-locked .ensures), eq-eqb _ _ (c .before .before .if1 .taken))
+    (pick-true, c .if2 .taken, ← (c .before .is-locked .ensures), c .before .before .if1 .taken, ← (c .before .before .before .has .ensures))
 
 lock-requires : tie.Need-lock-requires
 lock-requires c κs = search needs
@@ -26,7 +28,8 @@ returns-2 c =
       ← (c .lock .ensures),
       c .before .if2 .left,
       ← (c .before .before .is-locked .ensures),
-      eq-eqb _ _ (c .before .before .before .if1 .taken),
+      c .before .before .before .if1 .taken,
+      ← (c .before .before .before .before .has .ensures),
     )
 
 unlock-requires : tie.Need-unlock-requires
@@ -34,9 +37,9 @@ unlock-requires c κs = search needs
 
 returns-3 : tie.Need-returns-3
 unfolding writeLock
-returns-3 c = simp (pick-false, ← (c .unlock .ensures), ne-eqb _ _ (c .before .if1 .left))
+returns-3 c = simp (pick-false, ← (c .unlock .ensures), c .before .if1 .left, ← (c .before .before .has .ensures))
 
 pub write-lock-spec : {M : Type 1} → statement M
 write-lock-spec =
     tie.close
-    (tie.spec is-locked-requires returns lock-requires returns-2 unlock-requires returns-3)
+    (tie.spec has-requires is-locked-requires returns lock-requires returns-2 unlock-requires returns-3)

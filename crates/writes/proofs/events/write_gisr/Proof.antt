@@ -1,5 +1,5 @@
 use borrow.Author.Needs.{needs}
-use Rattle.masks.specs.Pick.{pick-true, pick-false}
+use Rattle.masks.specs.PickLaws.{pick-true, pick-false}
 use Rattle.rules.specs.Flags.{writeGisr}
 use Rattle.writes.proofs.events.write_gisr.Statement.{statement}
 use Rattle.writes.proofs.events.write_gisr.Tie as tie

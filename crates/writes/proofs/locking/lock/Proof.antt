@@ -1,6 +1,6 @@
 use mathlib.Core.Path.{sym, _∙_}
 use borrow.Author.Needs.{needs}
-use Rattle.masks.specs.Pick.{pick-true}
+use Rattle.masks.specs.PickLaws.{pick-true}
 use Rattle.rules.specs.Writes.{lock}
 use Rattle.writes.proofs.WriteLaws.{lock-receive, lock-fifo}
 use Rattle.writes.proofs.locking.lock.Statement.{statement}

@@ -1,5 +1,5 @@
 use borrow.Author.Needs.{needs}
-use Rattle.masks.specs.Pick.{pick-true, pick-false}
+use Rattle.masks.specs.PickLaws.{pick-true, pick-false}
 use Rattle.rules.specs.Writes.{lockError}
 use Rattle.writes.proofs.locking.lock_error.Statement.{statement}
 use Rattle.writes.proofs.locking.lock_error.Tie as tie

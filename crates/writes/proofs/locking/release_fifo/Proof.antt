@@ -1,6 +1,6 @@
 use mathlib.Core.Logic.{⊎-elim}
 use borrow.Author.Needs.{needs}
-use Rattle.masks.specs.Pick.{pick-true, pick-false}
+use Rattle.masks.specs.PickLaws.{pick-true, pick-false}
 use Rattle.rules.specs.Writes.{releaseFifo}
 use Rattle.writes.proofs.locking.release_fifo.Statement.{statement}
 use Rattle.writes.proofs.locking.release_fifo.Tie as tie

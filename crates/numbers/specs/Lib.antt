@@ -1,5 +1,0 @@
-pub mod Answers
-pub mod Calls
-pub mod Laws
-pub mod Code
-pub mod CodeLaws

@@ -1,2 +1,0 @@
-pub mod Idents
-pub mod Search
