@@ -7,20 +7,19 @@ use borrow.Author.Tests.{lt-ltb}
 use lib.Dec.{eqb, ltb}
 use lib.Bits.{bitOr, or-zero-r}
 use Rattle.masks.specs.Pick.{pick}
-use Rattle.masks.specs.PickLaws.{pick-true, pick-false}
+use Rattle.masks.specs.PickLaws.{pick-true}
 use Rattle.masks.specs.Bits.{bitOf, maskOf, putBit}
 use Rattle.masks.specs.Laws.{own, or-by, put-with}
-use Rattle.rules.specs.declared.Answer.the-variants.{Stored, Queued, HeldOff, Overrun, Unmatched, BadFrame, Ignored, Woke}
+use Rattle.rules.specs.declared.Answer.the-variants.{Stored, Queued, HeldOff, Overrun, Unmatched, BadFrame, Ignored}
 use Rattle.rules.specs.declared.Verdict.{Verdict}
 use Rattle.rules.specs.declared.Ruling.{Ruling}
 use Rattle.rules.specs.declared.Verdict.the-variants.{Say, Store}
 use Rattle.rules.specs.declared.Fifo.{Fifo}
 use Rattle.rules.specs.declared.Control.{Control}
 use Rattle.rules.specs.Record.{withMode, withEvents, withFifo, withBuffers, withLast, withGisr, withIflg}
-use Rattle.rules.specs.Registers.{OVRNIF, ERRIF, WAKEIF}
-use Rattle.rules.specs.Modes.{wake}
+use Rattle.rules.specs.Registers.{OVRNIF, ERRIF}
 use Rattle.rules.specs.Kinds.{isLocked}
-use Rattle.rules.specs.Bus.{raiseGisr, woken, fifoTakes, withEntry, raiseLast}
+use Rattle.rules.specs.Bus.{raiseGisr, fifoTakes, withEntry, raiseLast}
 use Rattle.rules.specs.Plan.{store, say, plain}
 use Rattle.bus_steps.specs.declared.frames.Outcome.{Outcome}
 use Rattle.bus_steps.specs.Code.{rulingOf}
@@ -28,32 +27,29 @@ use Rattle.bus_steps.specs.Code.{rulingOf}
 -- ---- what becomes of a frame
 
 abbrev pub unmarked : Verdict → Outcome
-unmarked v = record { verdict = v; raises = false; iflg = 0; gisr = 0; queues = false; wakes = false }
+unmarked v = record { verdict = v; raises = false; iflg = 0; gisr = 0; queues = false }
 
--- the eight outcomes
+-- the seven outcomes
 abbrev pub ignored : Outcome
 ignored = unmarked (Say Ignored)
 
-abbrev pub woke : Outcome
-woke = record { verdict = Say Woke; raises = false; iflg = 0; gisr = WAKEIF; queues = false; wakes = true }
-
 abbrev pub bad : Outcome
-bad = record { verdict = Say BadFrame; raises = false; iflg = 0; gisr = ERRIF; queues = false; wakes = false }
+bad = record { verdict = Say BadFrame; raises = false; iflg = 0; gisr = ERRIF; queues = false }
 
 abbrev pub heldOff : ℕ → Outcome
-heldOff n = record { verdict = Say (HeldOff n); raises = true; iflg = 0; gisr = 0; queues = false; wakes = false }
+heldOff n = record { verdict = Say (HeldOff n); raises = true; iflg = 0; gisr = 0; queues = false }
 
 abbrev pub stored : ℕ → Outcome
-stored n = record { verdict = Store n (Stored n); raises = true; iflg = maskOf (λ k. eqb k n); gisr = 0; queues = false; wakes = false }
+stored n = record { verdict = Store n (Stored n); raises = true; iflg = maskOf (λ k. eqb k n); gisr = 0; queues = false }
 
 abbrev pub unmatched : Outcome
-unmatched = record { verdict = Say Unmatched; raises = true; iflg = 0; gisr = 0; queues = false; wakes = false }
+unmatched = record { verdict = Say Unmatched; raises = true; iflg = 0; gisr = 0; queues = false }
 
 abbrev pub overrun : Outcome
-overrun = record { verdict = Say Overrun; raises = true; iflg = 0; gisr = OVRNIF; queues = false; wakes = false }
+overrun = record { verdict = Say Overrun; raises = true; iflg = 0; gisr = OVRNIF; queues = false }
 
 abbrev pub queued : ℕ → Outcome
-queued n = record { verdict = Store n (Queued n); raises = true; iflg = 0; gisr = 0; queues = true; wakes = false }
+queued n = record { verdict = Store n (Queued n); raises = true; iflg = 0; gisr = 0; queues = true }
 
 -- ---- the control state with its marks
 
@@ -63,9 +59,8 @@ risen last raises i = pick raises (max last i) last
 unfoldable pub entered : Control → Bool → Fifo
 entered c queues = pick (queues && ltb (c .fifo .count) (c .config .fsiz)) (withEntry c) (c .fifo)
 
--- awake or asleep as before
-unfoldable pub base : Control → Outcome → ℕ → Control
-base c o i =
+unfoldable pub marked : Control → Outcome → ℕ → Control
+marked c o i =
     record {
       mode = withLast (c .mode) (risen (c .mode .last) (o .raises) i);
       config = c .config;
@@ -76,13 +71,6 @@ base c o i =
       buffers = withIflg (c .buffers) (bitOr (c .buffers .iflg) (o .iflg));
     }
 
-unfoldable pub marked : Control → Outcome → ℕ → Control
-marked c o i = pick (o .wakes) (wake (base c o i)) (base c o i)
-
-pub marked-base : (c : Control) (o : Outcome) (i : ℕ) → o .wakes ≡ false → marked c o i ≡ base c o i
-unfolding marked
-marked-base c o i e = pick-false (o .wakes) (wake (base c o i)) (base c o i) e
-
 -- the ruling on a frame with identifier i
 abbrev pub ruledBy : Control → ℕ → Outcome → Ruling
 ruledBy c i o = record { next = marked c o i; verdict = o .verdict }
@@ -91,27 +79,23 @@ ruledBy c i o = record { next = marked c o i; verdict = o .verdict }
 
 module _ (c : Control) (i : ℕ) where
   pub ignored-ruled : ruledBy c i ignored ≡ rulingOf (plain c Ignored)
-  unfolding marked base risen entered pick
+  unfolding marked risen entered pick
   ignored-ruled = simp (or-zero-r)
 
-  pub woke-ruled : ruledBy c i woke ≡ rulingOf (plain (woken c) Woke)
-  unfolding marked base risen entered pick woken
-  woke-ruled = simp (or-zero-r)
-
   pub bad-ruled : ruledBy c i bad ≡ rulingOf (plain (raiseGisr c ERRIF) BadFrame)
-  unfolding marked base risen entered pick
+  unfolding marked risen entered pick
   bad-ruled = simp (or-zero-r)
 
   pub held-ruled : (n : ℕ) → ruledBy c i (heldOff n) ≡ rulingOf (plain (raiseLast c i) (HeldOff n))
-  unfolding marked base risen entered pick raiseLast
+  unfolding marked risen entered pick raiseLast
   held-ruled n = simp (or-zero-r)
 
   pub unmatched-ruled : ruledBy c i unmatched ≡ rulingOf (plain (raiseLast c i) Unmatched)
-  unfolding marked base risen entered pick raiseLast
+  unfolding marked risen entered pick raiseLast
   unmatched-ruled = simp (or-zero-r)
 
   pub overrun-ruled : ruledBy c i overrun ≡ rulingOf (plain (raiseGisr (raiseLast c i) OVRNIF) Overrun)
-  unfolding marked base risen entered pick raiseLast
+  unfolding marked risen entered pick raiseLast
   overrun-ruled = simp (or-zero-r)
 
   pub stored-ruled : (n : ℕ) → c .buffers .iflg < 65536 → ruledBy c i (stored n)
@@ -120,14 +104,14 @@ module _ (c : Control) (i : ℕ) where
         moves = store n ∷ [];
         reply = say (Stored n);
       })
-  unfolding marked base risen entered pick raiseLast
+  unfolding marked risen entered pick raiseLast
   stored-ruled n h =
       simp (or-zero-r, or-by (c .buffers .iflg) (maskOf (λ k. eqb k n)) (bitOf (c .buffers .iflg)) (λ k. eqb k n) (own (c .buffers .iflg) h) refl ∙ put-with (c .buffers .iflg) n)
 
   pub queued-ruled : (n : ℕ) → c .fifo .count < c .config .fsiz → ruledBy c i (queued n)
       ≡ rulingOf (record { control = withFifo (raiseLast c i) (withEntry c); moves = store n ∷ []; reply = say (Queued n) })
-  unfolding marked base risen entered raiseLast
-  queued-ruled n h = simp (or-zero-r, pick-true, pick-false, lt-ltb (c .fifo .count) (c .config .fsiz) h)
+  unfolding marked risen entered raiseLast
+  queued-ruled n h = simp (or-zero-r, pick-true, lt-ltb (c .fifo .count) (c .config .fsiz) h)
 
   -- a raised last identifier changes neither locks nor filters
   pub locked-raised : (n : ℕ) → isLocked (raiseLast c i) n ≡ isLocked c n

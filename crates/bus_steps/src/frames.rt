@@ -3,21 +3,18 @@
 // outcome is an enum, each match on it later is one more jump.
 ghost use mathlib.Core.Path.{_≡_};
 ghost use Prim.Native.Nat.{ℕ};
-ghost use Rattle.rules.specs.Rules.{wakes};
 ghost use Rattle.rules.specs.Bus.{toBuffer, fifoTakes, toFifo, raiseLast, judged};
 ghost use Rattle.bus_steps.specs.Code.{rulingOf};
 ghost use Rattle.bus_steps.specs.CodeMarks.{unmarked, risen, entered, marked, ruledBy};
 use kinds::is_locked;
 use kinds::place_after;
 use masks::NONE;
-use modes::wake;
 use rules::Answer;
 use rules::Control;
 use rules::Fifo;
 use rules::Verdict;
 use rules::bits::ERRIF;
 use rules::bits::OVRNIF;
-use rules::bits::WAKEIF;
 
 // What becomes of a frame: the verdict on it, and its marks in the control state.
 pub(crate) struct Outcome {
@@ -30,8 +27,6 @@ pub(crate) struct Outcome {
     gisr: u8,
     // the FIFO has one more entry
     queues: bool,
-    // the module wakes
-    wakes: bool,
 }
 
 // A verdict that marks nothing.
@@ -44,7 +39,6 @@ fn unmarked(verdict: Verdict) -> Outcome
         iflg: 0,
         gisr: 0,
         queues: false,
-        wakes: false,
     }
 }
 
@@ -94,8 +88,9 @@ fn to_fifo(c: Control, i: u8) -> Outcome
     queued
 }
 
-// A frame in normal operation, awake: ignored if unsynchronized, 'badframe', else to its buffer or the FIFO.
-fn judged(c: Control, good: bool, i: u8, n: u8) -> Outcome
+// A frame with identifier i in normal operation, awake, whose dedicated receive buffer is n, NONE if there is none: ignored if
+// unsynchronized, 'badframe', else to its buffer or the FIFO.
+pub(crate) fn judged(c: Control, good: bool, i: u8, n: u8) -> Outcome
     ensures { λ r. ⌜ ruledBy c i r ≡ rulingOf (judged c good i n) ⌝ }
 {
     if !c.mode.synced {
@@ -110,22 +105,6 @@ fn judged(c: Control, good: bool, i: u8, n: u8) -> Outcome
         return to_buffer(c, n);
     }
     to_fifo(c, i)
-}
-
-// A frame with identifier i, whose dedicated receive buffer is n, NONE if there is none.
-pub(crate) fn outcome_of(c: Control, good: bool, i: u8, n: u8) -> Outcome
-    ensures { λ r. ⌜ ruledBy c i r ≡ rulingOf (wakes c (judged c good i n)) ⌝ }
-{
-    if c.mode.init {
-        return unmarked(Verdict::Say(Answer::Ignored));
-    }
-    if c.mode.slpak {
-        let mut woke = unmarked(Verdict::Say(Answer::Woke));
-        woke.gisr = WAKEIF;
-        woke.wakes = true;
-        return woke;
-    }
-    judged(c, good, i, n)
 }
 
 // The last identifier after a frame with identifier i.
@@ -163,8 +142,5 @@ pub(crate) fn marked(c: Control, o: Outcome, i: u8) -> Control
     next.events.gisr = gisr;
     next.buffers.iflg = iflg;
     next.fifo = fifo;
-    if o.wakes {
-        return wake(next);
-    }
     next
 }

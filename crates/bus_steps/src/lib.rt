@@ -12,8 +12,8 @@ ghost use Rattle.bus_steps.specs.Code.{rulingOf, syncedOf, dueOf};
 ghost use Rattle.rules.specs.declared.Answer.the-variants.{Ok};
 use crate::events::faulted;
 use crate::events::woken;
+use crate::frames::judged;
 use crate::frames::marked;
-use crate::frames::outcome_of;
 use crate::slots::slot_for;
 use crate::syncs::due_kind;
 use crate::syncs::synced;
@@ -39,7 +39,13 @@ pub(crate) fn ruling(next: Control, answer: Answer) -> Ruling
 pub fn on_frame(c: Control, good: bool, i: u8, n: u8) -> Ruling
     ensures { λ r. ⌜ r ≡ rulingOf (wakes c (judged c good i n)) ⌝ }
 {
-    let o = outcome_of(c, good, i, n);
+    if c.mode.init {
+        return ruling(c, Answer::Ignored);
+    }
+    if c.mode.slpak {
+        return ruling(woken(c), Answer::Woke);
+    }
+    let o = judged(c, good, i, n);
     let verdict = o.verdict;
     Ruling {
         next: marked(c, o, i),
