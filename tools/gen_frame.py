@@ -6,7 +6,7 @@ from walk import *
 Cal=Decl("Call","Call-row","enum","controller",False)
 Fra=Decl("FrameBytes","Frame-row","struct","lines",False)
 Ans=Decl("Answer","Answer-row","enum","rules",False)
-BYTES="tyArray byte 30"
+BYTES="tyArray byte 34"
 LT=[Ans.mir(),"tyRef (named 0) mut rec-ty",Cal.mir(),Fra.mir(),"sliceTy (tyRef (named 1) mut byte)",BYTES,"word","tyRef erased mut rec-ty",f"tyRef erased imm ({BYTES})","sliceTy (tyRef erased imm byte)","tyRef erased mut byte","sliceTy (tyRef erased mut byte)"]
 N=len(LT); CELLS=[f"_{i}" for i in range(N)]; DIES=[f"d{i}" for i in range(N)]; ALL=CELLS+DIES
 val={1:"vptr b o",2:Cal.val("call"),3:Fra.val("f"),4:"s-room"}
@@ -50,7 +50,7 @@ for i in range(1,5): w.emit(f"pass1 ! (init ! {w.cell(i)} refl {typ[i]}) $ ")
 w.emit("pass0 ! $\n"); w.to(first+ALL); w.emit("sized "+" ".join(f"l{i}" for i in range(N))); walk=w.text(); w.ind=10
 # ---- the bytes are copied, and their number is had
 base=list(w.ctx)
-w.assign(f"(of-opd ! {w.part(3,0)})",5,"(array-lawful 𝓤 H A W u8 (uint-lawful 𝓤 H A W w8) 30 .typed bytes _ bytes-is .0)")
+w.assign(f"(of-opd ! {w.part(3,0)})",5,"(array-lawful 𝓤 H A W u8 (uint-lawful 𝓤 H A W w8) 34 .typed bytes _ bytes-is .0)")
 w.emit("use0 W (raw (Size 𝓤 H A at-mem run .pre to-size)) asked-size $\n"); w.give(0,["pre"])
 w.emit(f"calls-at ! fm (Size 𝓤 H A at-mem run) known-size to-size {w.ops([w.load(3)])} (λ v.\n")
 w.emit("use1 W (later (some (λ (k : ℕ). (‵ ftrue ⊛ ‵ (usize .own k (v ∷ []))) ⊛ raw (ensured 𝓤 H A size.ended (size.clauses 𝓤 H A at-mem run) tt (f, tt) tt k)))) (id⊢ 𝓤 _) $ await ! tt $ pick ! (λ k.\n")
@@ -58,11 +58,11 @@ w.emit("split ! $ move ! (1 ∷ []) $ use1 W (some (λ (ws : Lasts size.ended tt
 w.emit("split ! $ move ! (1 ∷ []) $ heard ! (k ≡ length (bytesIn f)) (λ e. drop ! $ split ! $ drop ! $ peeks ! usize (Is usize) (shows 𝓤 H A usize) k (v ∷ []) (λ is. drop ! $\n"); w.give(1,[])
 w.land(6,"word","(uint-lawful 𝓤 H A W w64 .typed k _ is .0)","(ap only (is .0))"); w.keep(base); w.emit("stepped k e (is .1)"); one=w.text()
 # ---- the bytes are lent for the step
-val2={**val,5:"bytes-val 𝓤 H A W (0 ∷ []) l5 30 bytes thirty",6:"vint w64 k"}; w.ctx=list(base)
+val2={**val,5:"bytes-val 𝓤 H A W (0 ∷ []) l5 34 bytes every",6:"vint w64 k"}; w.ctx=list(base)
 w.assign(f"(addr ! (from ! (hop ! (look ! {w.cell(1)} refl) (stop !))))",7,"(tt, tt)")
 w.assign("(addr ! (from ! (stop !)))",8,"(tt, tt)"); w.assign(f"(agg ! {w.ops([w.load(8),w.load(6)])})",9,"(tt, (tt, (record { fits = k-fits }, tt)))"); w.again(4,10,11,"room-room")
 w.emit("-- the local is lent for a lifetime α of the call\nlft-new ! tt (λ α. "); w.give(0,["α"]); w.to(["_5","α"])
-w.emit("use2 W (later (some (λ (δ : GName). ‵ (Part′ α l5 k δ) ⊛ ‵ (Lent′ α l5) ⊛ ‵ (flft (α ∷ []) fullShare)))) (lends-bytes 𝓤 H A W (α ∷ []) l5 30 bytes thirty (named 1) fullShare k bytes-is bytes-room) $ await ! tt $ pick ! (λ δ. split ! $ move ! (1 ∷ []) $ split ! $\n"); w.give(2,["lent","α","part"])
+w.emit("use2 W (later (some (λ (δ : GName). ‵ (Part′ α l5 k δ) ⊛ ‵ (Lent′ α l5) ⊛ ‵ (flft (α ∷ []) fullShare)))) (lends-bytes 𝓤 H A W (α ∷ []) l5 34 bytes every (named 1) fullShare k bytes-is bytes-room) $ await ! tt $ pick ! (λ δ. split ! $ move ! (1 ∷ []) $ split ! $\n"); w.give(2,["lent","α","part"])
 w.emit(f"rewrite ! {w.at('part')} (λ (m : ℕ). ‵ (ShrSlice (named 1) (α ∷ []) u8 .own (part-ref l5 k δ) (sliceVal (l5, 0) m ∷ []))) (sym (counted k e)) refl $ ")
 PASSED=["tok","α","t-room","rec","part","room"]; w.to(PASSED); w.emit("group ! 6 $ use1 W (raw (Step 𝓤 H A at-mem run .pre (to α l5 k δ))) (asked α l5 k δ) $\n"); w.give(6,["pre"])
 w.emit(f"calls-at ! fm (Step 𝓤 H A at-mem run) known (to α l5 k δ) {w.ops([w.load(7),w.load(2),w.load(9),w.load(11)])} (λ v.\n")
@@ -73,7 +73,7 @@ w.emit(f"split ! $ move ! (1 ∷ []) $ heard ! ({SA}) (λ p. fsplit ! $ move ! (
 w.to(["res"]); w.emit("split ! $ "); w.give(1,["toks","own"]); w.to(["own"])
 w.emit(Ans.peeks("x","(v ∷ [])")+"(λ is. drop ! $ split ! $ move ! (1 ∷ []) $ split ! $ move ! (1 ∷ []) $ split ! $\n"); w.give(2,["t-room","true2","α","tok"])
 w.emit("-- the lifetime is ended, and the local is back\n"); w.to(["α"]); w.emit("lft-end ! tt $ "); w.to(["α","lent"])
-w.emit("use2 W (later (‵ (fat fullShare (tyArray byte 30) l5 0 (bytes-val 𝓤 H A W (0 ∷ []) l5 30 bytes thirty)))) (bytes-back 𝓤 H A W (α ∷ []) l5 30 bytes thirty) $ await ! tt $\n"); w.give(2,["_5"])
+w.emit("use2 W (later (‵ (fat fullShare (tyArray byte 34) l5 0 (bytes-val 𝓤 H A W (0 ∷ []) l5 34 bytes every)))) (bytes-back 𝓤 H A W (α ∷ []) l5 34 bytes every) $ await ! tt $\n"); w.give(2,["_5"])
 w.land(0,LT[0],Ans.typed("x","is"),Ans.same("x","is")); end=["last","tok","t-room","fin"]; w.keep(end+ALL)
 w.emit("left (ws .0) x (ws .1 .1 .1 .0) (said k e p) (answer-is x _ is) l"); two=w.text()
 # ---- the return
@@ -137,7 +137,7 @@ use Rattle.controller.specs.Session.{{stepOf}}
 use Rattle.controller.specs.Calls.{{doneOf, stepFor, roomFor}}
 use Rattle.lines.specs.Grammar.{{bytesIn}}
 {chr(10).join(d.uses() for d in (Con,Cal,Fra,Ans))}
-use Rattle.lines.proofs.FrameLaws.{{thirty-bytes, frame-part}}
+use Rattle.lines.proofs.FrameLaws.{{all-bytes, frame-part}}
 use {modp}.Bytes.{{bytes-val, Lent, Part, lends-bytes, bytes-back}}
 use Rattle.in_place.proofs.step as step
 use Rattle.in_place.proofs.step.Symbol as step-def
@@ -205,21 +205,21 @@ module _ {G} (W : Given 𝓤 H A) {AM} (κ κ-room : Lft) (q q-room : Share) (b 
   abbrev Says : Controller → Answer → List ℕ → Type 0
   Says c x zs = (c ≡ doneOf (stepOf h ({STEP})) .next) × (x ≡ doneOf (stepOf h ({STEP})) .answer) × (zs ≡ roomFor h call room)
 
-  -- the thirty bytes
+  -- all its bytes, and so many they are
   abbrev bytes : List ℕ
   bytes = map (λ v. v) (f .bytes)
 
-  thirty : length bytes ≡ 30
-  thirty = ap length (same-list (f .bytes)) ∙ thirty-bytes f _ f-is
+  every : length bytes ≡ 34
+  every = ap length (same-list (f .bytes)) ∙ all-bytes f _ f-is
 
   part-is : (k : ℕ) → k ≡ length (bytesIn f) → take k bytes ≡ bytesIn f
   part-is k e = ap (take k) (same-list (f .bytes)) ∙ frame-part f k e
 
-  bytes-is : Is (Array u8 30) bytes (bytes-val 𝓤 H A W (0 ∷ []) 0 30 bytes thirty ∷ [])
+  bytes-is : Is (Array u8 34) bytes (bytes-val 𝓤 H A W (0 ∷ []) 0 34 bytes every ∷ [])
   bytes-is = LL.owed {Fra.a}.the-type {Fra.a}′.the-laws f _ f-is{path(0)}
 
   bytes-room : Room u8 (length bytes)
-  bytes-room = (omega (arith, thirty), omega (arith, thirty))
+  bytes-room = (omega (arith, every), omega (arith, every))
 
   abbrev Said : ℕ → Controller → Answer → List ℕ → Type 0
   Said k c x zs = (c ≡ doneOf (stepOf h (stepFor call (take k bytes) room)) .next) × (x ≡ doneOf (stepOf h (stepFor call (take k bytes) room)) .answer) × (zs ≡ roomFor h call room)
@@ -233,10 +233,10 @@ module _ {G} (W : Given 𝓤 H A) {AM} (κ κ-room : Lft) (q q-room : Share) (b 
   -- the part that is lent, at the local l
   module _ (α l k : ℕ) (δ : GName) where
     abbrev Part′ : Fml
-    Part′ = Part 𝓤 H A W (α ∷ []) l 30 bytes thirty (named 1) k δ
+    Part′ = Part 𝓤 H A W (α ∷ []) l 34 bytes every (named 1) k δ
 
   abbrev Lent′ : ℕ → ℕ → Fml
-  Lent′ α l = Lent 𝓤 H A W (α ∷ []) l 30 bytes thirty
+  Lent′ α l = Lent 𝓤 H A W (α ∷ []) l 34 bytes every
 
   abbrev part-ref : ℕ → ℕ → GName → RefT (List ℕ)
   part-ref l k δ = record {{ ptr = (l, 0); name = δ; now = take k bytes }}

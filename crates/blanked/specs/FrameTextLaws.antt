@@ -6,13 +6,13 @@ use mathlib.Core.List.{List, [], _∷_, _++_, append-assoc, append-nil}
 use native.Mathlib.Omega.{arith}
 use native.Mathlib.Numerals.{add-one}
 use borrow.Author.Tests.{eqb-true, ltb-false}
-use lib.ListN.{getD, set, take, drop, length, replicate, length-set, length-take, length-drop}
+use lib.ListN.{getD, set, take, drop, length, length-set, length-take, length-drop}
 use lib.Seq.{take-suc-set}
 use lib.Dec.{eqb, ltb}
 use Rattle.masks.specs.PickLaws.{pick-keeps}
 use Rattle.contents.specs.Bytes.{bytesFrom}
 use Rattle.lines.specs.declared.Parsed.{Parsed}
-use Rattle.lines.specs.Grammar.{byteOf, isFrame, decodeFrom, frameLine, lineOf}
+use Rattle.lines.specs.Grammar.{noBytes, byteOf, isFrame, decodeFrom, frameLine, lineOf}
 use Rattle.report.specs.Text.{hexOf, hexesOf}
 use Rattle.replaying.specs.Replay.{stepIn}
 use Rattle.blanked.specs.DigitLaws.{byte-hex}
@@ -59,7 +59,7 @@ module _ (s : List ℕ) where
   SaysParsed q = Says s (parsedStep q)
 
   -- i bytes are decoded, and the digits ds are left
-  decode-says : (good : Bool) (bytes : List ℕ) (i : ℕ) (ds : List ℕ) → length bytes ≡ 30 → i + i + length ds ≤ 60 →
+  decode-says : (good : Bool) (bytes : List ℕ) (i : ℕ) (ds : List ℕ) → length bytes ≡ 34 → i + i + length ds ≤ 60 →
       s ≡ 70 ∷ 9 ∷ verdictByte good ∷ 9 ∷ (hexesOf (take i bytes) ++ ds) → Bytes (take i bytes) → SaysParsed (decodeFrom good bytes i ds)
   unfolding decodeFrom stepBeside stepIn stepText
   decode-says good bytes i [] n h p b =
@@ -80,8 +80,8 @@ module _ (s : List ℕ) where
   unfolding frameLine stepBeside hexesOf
   frame-says l f =
       pick-keeps SaysParsed (eqb (getD s 2 0) 71)
-      (λ e. decode-says true (replicate 30 0) 0 (drop 4 s) refl short (is 71 e) tt)
-      (λ n. pick-keeps SaysParsed (eqb (getD s 2 0) 66) (λ e. decode-says false (replicate 30 0) 0 (drop 4 s) refl short (is 66 e) tt) (λ m. tt))
+      (λ e. decode-says true noBytes 0 (drop 4 s) refl short (is 71 e) tt)
+      (λ n. pick-keeps SaysParsed (eqb (getD s 2 0) 66) (λ e. decode-says false noBytes 0 (drop 4 s) refl short (is 66 e) tt) (λ m. tt))
     where
       short : 0 + 0 + length (drop 4 s) ≤ 60
       short = let d = length-drop 4 s in omega arith

@@ -16,7 +16,7 @@ use Rattle.rules.specs.declared.Fault.{Fault}
 use Rattle.rules.specs.declared.Fault.the-variants.{Early, Lost, Illegal, Mismatch}
 use Rattle.rules.specs.Steps.{Step, reset, read, write, sync, syncDue, slot, frame, fault, timeout}
 use Rattle.lines.specs.declared.Line.{Line as Reading}
-use Rattle.lines.specs.Grammar.{byteOf, oneOf, syncOf, faultOf, threeOf, fourOf, sevenOf, shortOf}
+use Rattle.lines.specs.Grammar.{noFrame, byteOf, oneOf, syncOf, faultOf, threeOf, fourOf, sevenOf, shortOf}
 use Rattle.report.specs.Text.{hexOf, hexesOf, kindText}
 use Rattle.replaying.specs.Replay.{stepIn}
 use Rattle.blanked.specs.DigitLaws.{byte-hex}
@@ -90,7 +90,7 @@ all-spelled k s e =
 
 module _ (s : List ℕ) where
   abbrev pub SaysReading : Reading → Type 0
-  SaysReading k = Says s (stepBeside k (record { bytes = replicate 30 0; size = 0 }))
+  SaysReading k = Says s (stepBeside k noFrame)
 
   one-says : (a : ℕ) → s ≡ a ∷ [] → SaysReading (oneOf a)
   unfolding oneOf stepBeside stepIn stepText

@@ -18,7 +18,7 @@ use Rattle.rules.specs.declared.Fault.{Fault}
 use Rattle.rules.specs.declared.Fault.the-variants.{Early, Lost, Illegal, Mismatch}
 use Rattle.rules.specs.Steps.{Step, reset, read, write, sync, syncDue, slot, frame, fault, timeout}
 use Rattle.lines.specs.declared.Line.the-variants.{Unread}
-use Rattle.lines.specs.Grammar.{byteOf, plainOf, oneOf, syncOf, faultOf, threeOf, fourOf, sevenOf, shortOf, isFrame, decodeFrom, frameLine, lineOf}
+use Rattle.lines.specs.Grammar.{noBytes, byteOf, plainOf, oneOf, syncOf, faultOf, threeOf, fourOf, sevenOf, shortOf, isFrame, decodeFrom, frameLine, lineOf}
 use Rattle.report.specs.Text.{digitOf, hexOf, hexesOf, kindText, unreadText}
 use Rattle.replaying.specs.Replay.{stepIn}
 use Rattle.blanked.specs.DigitLaws.{hex-byte}
@@ -71,7 +71,7 @@ decode-next good bytes i h l ds v e b =
     ap (λ (x : ℕ). pick (ltb 255 x) (plainOf Unread) (decodeFrom good (set bytes i x) (i + 1) ds)) e ∙ pick-false (ltb 255 v) _ _ (le-ltb 255 v b)
 
 -- i bytes are decoded, and the digits of f are left
-decode-read : (good : Bool) (bytes : List ℕ) (i : ℕ) (f : List ℕ) → length bytes ≡ 30 → i + length f ≤ 30 → Bytes f →
+decode-read : (good : Bool) (bytes : List ℕ) (i : ℕ) (f : List ℕ) → length bytes ≡ 34 → i + length f ≤ 30 → Bytes f →
     parsedStep (decodeFrom good bytes i (hexesOf f)) ≡ some (frame good (take i bytes ++ f))
 unfolding hexesOf hexOf
 decode-read good bytes i [] n h b = unfold decodeFrom stepBeside stepIn in ap (λ (x : List ℕ). some (frame good x)) (sym (append-nil (take i bytes)))
@@ -86,7 +86,7 @@ unfolding hexesOf hexOf
 hexes-length [] = refl
 hexes-length (v ∷ f) = let e = hexes-length f in omega arith
 
-verdict-read : (good : Bool) (ds : List ℕ) → frameLine (verdictByte good) ds ≡ decodeFrom good (replicate 30 0) 0 ds
+verdict-read : (good : Bool) (ds : List ℕ) → frameLine (verdictByte good) ds ≡ decodeFrom good noBytes 0 ds
 unfolding frameLine pick
 verdict-read true ds = refl
 verdict-read false ds = refl
@@ -95,7 +95,7 @@ frame-read : (good : Bool) (f : List ℕ) → Bytes f → length f ≤ 30 → re
 unfolding readStep
 frame-read good f b h =
     ap parsedStep (frame-line (verdictByte good) (hexesOf f) (let e = hexes-length f in omega arith) ∙ verdict-read good (hexesOf f))
-    ∙ decode-read good (replicate 30 0) 0 f refl (omega arith) b
+    ∙ decode-read good noBytes 0 f refl (omega arith) b
 
 -- ---- all steps
 

@@ -90,7 +90,7 @@ fn print(d: Done, room: &[u8]) -> Controller {
 // A frame, its bytes being a value.
 fn framed(c: Controller, good: bool, f: FrameBytes) -> Done {
     let b = f.bytes;
-    if f.size < 30 {
+    if f.size < 34 {
         let n = f.size as usize;
         return c.frame(good, &b[..n]);
     }

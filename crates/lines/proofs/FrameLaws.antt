@@ -11,19 +11,19 @@ use Rattle.lines.specs.declared.FrameBytes.{FrameBytes}
 use Rattle.lines.specs.Grammar.{bytesIn}
 use Rattle.lines.proofs.FrameBytes.{the-type as the-frame}
 
--- it has thirty bytes
-pub thirty-bytes : (f : FrameBytes) (vs : List Val) → shadow (row the-frame .own f vs) → length (f .bytes) ≡ 30
-thirty-bytes f vs good = sym (length-map (f .bytes) _) ∙ good .1 .1 .0 .1 .0 .1
+-- it has thirty-four bytes
+pub all-bytes : (f : FrameBytes) (vs : List Val) → shadow (row the-frame .own f vs) → length (f .bytes) ≡ 34
+all-bytes f vs good = sym (length-map (f .bytes) _) ∙ good .1 .1 .0 .1 .0 .1
 
 -- of which so many are its own
-pub frame-length : (f : FrameBytes) → length (f .bytes) ≡ 30 → length (bytesIn f) ≡ min (f .size) 30
-frame-length f thirty = length-take (f .size) (f .bytes) ∙ ap (min (f .size)) thirty
+pub frame-length : (f : FrameBytes) → length (f .bytes) ≡ 34 → length (bytesIn f) ≡ min (f .size) 34
+frame-length f all = length-take (f .size) (f .bytes) ∙ ap (min (f .size)) all
 
-pub short-length : (f : FrameBytes) → length (f .bytes) ≡ 30 → f .size < 30 → f .size ≡ length (bytesIn f)
-short-length f thirty h = let l = frame-length f thirty in omega (arith, l)
+pub short-length : (f : FrameBytes) → length (f .bytes) ≡ 34 → f .size < 34 → f .size ≡ length (bytesIn f)
+short-length f all h = let l = frame-length f all in omega (arith, l)
 
-pub long-length : (f : FrameBytes) → length (f .bytes) ≡ 30 → 30 ≤ f .size → 30 ≡ length (bytesIn f)
-long-length f thirty h = let l = frame-length f thirty in omega (arith, l)
+pub long-length : (f : FrameBytes) → length (f .bytes) ≡ 34 → 34 ≤ f .size → 34 ≡ length (bytesIn f)
+long-length f all h = let l = frame-length f all in omega (arith, l)
 
 take-of-take : (n : ℕ) (xs : List ℕ) → take (length (take n xs)) xs ≡ take n xs
 take-of-take zero xs = refl

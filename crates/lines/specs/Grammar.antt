@@ -29,10 +29,17 @@ byteOf high low = pick (ltb 15 (nibbleOf high)) 256 (pick (ltb 15 (nibbleOf low)
 abbrev pub bytesIn : FrameBytes → List ℕ
 bytesIn f = take (f .size) (f .bytes)
 
+-- room for more bytes than a line can bring
+abbrev pub noBytes : List ℕ
+noBytes = replicate 34 0
+
+abbrev pub noFrame : FrameBytes
+noFrame = record { bytes = noBytes; size = 0 }
+
 -- ---- lines without a frame, by their length; 9 is the tab
 
 abbrev pub plainOf : Line → Parsed
-plainOf l = record { line = l; frame = record { bytes = replicate 30 0; size = 0 } }
+plainOf l = record { line = l; frame = noFrame }
 
 -- Z reset, M sync due, Q timeout
 unfoldable pub oneOf : ℕ → Line
@@ -93,7 +100,7 @@ decodeFrom good bytes i (h ∷ l ∷ ds) =
 -- the verdict G or B
 unfoldable pub frameLine : ℕ → List ℕ → Parsed
 frameLine verdict ds =
-    pick (eqb verdict 71) (decodeFrom true (replicate 30 0) 0 ds) (pick (eqb verdict 66) (decodeFrom false (replicate 30 0) 0 ds) (plainOf Unread))
+    pick (eqb verdict 71) (decodeFrom true noBytes 0 ds) (pick (eqb verdict 66) (decodeFrom false noBytes 0 ds) (plainOf Unread))
 
 -- ---- the step that a line is
 

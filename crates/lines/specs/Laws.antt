@@ -5,12 +5,12 @@ use mathlib.Core.Path.{_≡_}
 use mathlib.Core.List.{List, [], _∷_}
 use mathlib.Core.Bool.{Bool, true, false, false≢true}
 use borrow.Author.Tests.{lt-ltb, ltb-false}
-use lib.ListN.{length, drop, getD, set, replicate, length-drop}
+use lib.ListN.{length, drop, getD, set, length-drop}
 use lib.Dec.{ltb, eqb}
 use Rattle.masks.specs.PickLaws.{pick-keeps, pick-true}
 use Rattle.lines.specs.declared.Line.the-variants.{Unread}
 use Rattle.lines.specs.declared.Parsed.{Parsed}
-use Rattle.lines.specs.Grammar.{lineOf, frameLine, isFrame, decodeFrom, plainOf, byteOf}
+use Rattle.lines.specs.Grammar.{noBytes, lineOf, frameLine, isFrame, decodeFrom, plainOf, byteOf}
 
 -- "one over 64 bytes without its LF, is 'unread'"
 pub over-unread : (s : List ℕ) → 64 < length s → lineOf s ≡ plainOf Unread
@@ -39,8 +39,8 @@ frame-fits : (v : ℕ) (ds : List ℕ) → length ds ≤ 60 → Fits (frameLine 
 unfolding frameLine
 frame-fits v ds h =
     let k : 0 + 0 + length ds ≤ 60 = omega arith in
-    pick-keeps Fits (eqb v 71) (λ e. decoded-fits true ds (replicate 30 0) 0 k)
-    (λ e. pick-keeps Fits (eqb v 66) (λ e. decoded-fits false ds (replicate 30 0) 0 k) (λ e. omega arith))
+    pick-keeps Fits (eqb v 71) (λ e. decoded-fits true ds noBytes 0 k)
+    (λ e. pick-keeps Fits (eqb v 66) (λ e. decoded-fits false ds noBytes 0 k) (λ e. omega arith))
 
 pub frame-size : (s : List ℕ) → lineOf s .frame .size ≤ 30
 unfolding lineOf

@@ -1,8 +1,8 @@
 // One line of a recording, without its LF, as a step. Any bytes get an answer: what is no step is unread.
 ghost use mathlib.Core.Path.{_≡_};
 ghost use Prim.Native.Nat.{_≤_};
-ghost use lib.ListN.{length, replicate};
-ghost use Rattle.lines.specs.Grammar.{bytesIn, nibbleOf, byteOf, plainOf, oneOf, syncOf, faultOf, threeOf, fourOf, sevenOf, shortOf, isFrame, decodeFrom, frameLine, lineOf};
+ghost use lib.ListN.{length};
+ghost use Rattle.lines.specs.Grammar.{bytesIn, noBytes, nibbleOf, byteOf, plainOf, oneOf, syncOf, faultOf, threeOf, fourOf, sevenOf, shortOf, isFrame, decodeFrom, frameLine, lineOf};
 use controller::Call;
 use rules::Fault;
 use rules::SyncKind;
@@ -12,9 +12,11 @@ pub enum Line {
     Unread,
 }
 
-// A frame's bytes as a value: the first size of them, all thirty where size is larger. No line has more.
+// A frame's bytes as a value: the first size of them, all where size is larger. No line has more than thirty. The rules look at the
+// first two; the thirty-two behind them are copied as two words of sixteen, where an odd rest would overlap and each copy of it wait for the
+// one before.
 pub struct FrameBytes {
-    pub bytes: [u8; 30],
+    pub bytes: [u8; 34],
     pub size: u8,
 }
 
@@ -22,7 +24,7 @@ pub struct FrameBytes {
 pub fn frame_size(f: FrameBytes) -> usize
     ensures { λ r. ⌜ r ≡ length (bytesIn f) ⌝ }
 {
-    if f.size < 30 { f.size as usize } else { 30 }
+    if f.size < 34 { f.size as usize } else { 34 }
 }
 
 // A line, and the bytes of its frame beside it: none where it is no frame.
@@ -73,7 +75,7 @@ fn plain(line: Line) -> Parsed
     Parsed {
         line,
         frame: FrameBytes {
-            bytes: [0u8; 30],
+            bytes: [0u8; 34],
             size: 0,
         },
     }
@@ -229,9 +231,9 @@ fn short(s: &[u8]) -> Line
 // A frame's digits, two a byte.
 fn decode(good: bool, s: &[u8]) -> Parsed
     requires { ⌜ length (now s) ≤ 60 ⌝ }
-    ensures { λ r. ⌜ r ≡ decodeFrom good (replicate 30 0) 0 (now (s .entry)) ⌝ }
+    ensures { λ r. ⌜ r ≡ decodeFrom good noBytes 0 (now (s .entry)) ⌝ }
 {
-    let mut bytes = [0u8; 30];
+    let mut bytes = [0u8; 34];
     let mut at = 0;
     let mut i: u8 = 0;
     while at < s.len() {

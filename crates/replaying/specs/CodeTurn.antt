@@ -16,7 +16,7 @@ use Rattle.controller.specs.Session.{stepOf}
 use Rattle.controller.specs.Calls.{roomFor}
 use Rattle.lines.specs.declared.Line.the-variants.{Step}
 use Rattle.lines.specs.declared.Parsed.{Parsed}
-use Rattle.lines.specs.Grammar.{lineOf}
+use Rattle.lines.specs.Grammar.{noFrame, lineOf}
 use Rattle.report.specs.Text.{Put}
 use Rattle.pieces.specs.declared.Held.{Held}
 use Rattle.pieces.specs.Feed.{Feed, noneHeld, lineIn, numberAfter, isRead, feedEnd, outOf}
@@ -41,7 +41,7 @@ idles t =
       written = t .written;
       due = false;
       call = Reset;
-      frame = record { bytes = replicate 30 0; size = 0 };
+      frame = noFrame;
     }
 
 -- at the LF that ends the line
@@ -105,7 +105,7 @@ opened s at =
       written = 0;
       due = false;
       call = Reset;
-      frame = record { bytes = replicate 30 0; size = 0 };
+      frame = noFrame;
     }
 
 -- after a piece without one

@@ -106,7 +106,7 @@ fn first(s: Session, at: usize) -> Turn
         due: false,
         call: Call::Reset,
         frame: FrameBytes {
-            bytes: [0u8; 30],
+            bytes: [0u8; 34],
             size: 0,
         },
     }

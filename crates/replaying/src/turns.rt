@@ -41,7 +41,7 @@ fn idle(t: Turn) -> Turn
         due: false,
         call: Call::Reset,
         frame: FrameBytes {
-            bytes: [0u8; 30],
+            bytes: [0u8; 34],
             size: 0,
         },
     }

@@ -5,7 +5,7 @@ use mathlib.Core.Path.{_≡_, refl, sym, ap, _∙_}
 use mathlib.Core.List.{List, [], _∷_}
 use mathlib.Core.Bool.{Bool}
 use lib.Dec.{ltb}
-use lib.ListN.{length, getD, drop, set, replicate, drop-of-length-le}
+use lib.ListN.{length, getD, drop, set, drop-of-length-le}
 use lib.Seq.{drop-cons}
 use denote.Ref.{now}
 use borrow.Author.Tests.{lt-ltb, le-ltb}
@@ -13,7 +13,7 @@ use borrow.Author.Needs.{needs}
 use Rattle.masks.specs.Pick.{pick}
 use Rattle.masks.specs.PickLaws.{pick-true, pick-false}
 use Rattle.lines.specs.declared.Line.the-variants.{Unread}
-use Rattle.lines.specs.Grammar.{decodeFrom, byteOf, plainOf}
+use Rattle.lines.specs.Grammar.{noBytes, decodeFrom, byteOf, plainOf}
 use Rattle.lines.proofs.decode.Statement.{statement}
 use Rattle.lines.proofs.decode.Tie as tie
 
@@ -39,7 +39,7 @@ turn g bytes i s at v h e =
     ∙ ap (λ (w : ℕ). pick (ltb 255 w) (plainOf Unread) (decodeFrom g (set bytes i w) (i + 1) (drop (at + 2) s))) (sym e)
 
 abbrev Inv-loop : tie.InvT-loop
-Inv-loop good s bytes₀ at₀ i₀ bytes at i = (at ≡ i + i) × ((at ≤ length s) × (decodeFrom good (replicate 30 0) 0 s ≡ decodeFrom good bytes i (drop at s)))
+Inv-loop good s bytes₀ at₀ i₀ bytes at i = (at ≡ i + i) × ((at ≤ length s) × (decodeFrom good noBytes 0 s ≡ decodeFrom good bytes i (drop at s)))
 
 abbrev μ-loop : tie.MeasureT-loop
 μ-loop good s bytes₀ at₀ i₀ bytes at i = length s - at

@@ -13,7 +13,7 @@ cast-n c = search needs
 array-share-prefix-b : tie.Need-array-share-prefix-b
 array-share-prefix-b c =
     let f = c .before .before .before .before .args .f in
-    let thirty : length (f .bytes) ≡ 30 = search needs in
+    let all : length (f .bytes) ≡ 34 = search needs in
     omega (arith, c .before .if1 .taken)
 
 slice-aggregate-frame : tie.Need-slice-aggregate-frame
