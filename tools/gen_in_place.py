@@ -369,7 +369,11 @@ use mir.Syntax.{tyPtr, op2, unsigned, mul, offset, int as intᴹ}
 use denote.Index.{place-is}
 use Rattle.contents.specs.Bytes.{noContents}
 use Rattle.controller.specs.Carry.{rowAt}
-use Rattle.controller.specs.Code.{rowIndex, windowRow, ruled, roomSent}
+use Rattle.controller.specs.Code.{rowIndex, windowRow, rulingFor, slotRuling, eventChange, rulingChange, ruled, roomSent, readAnswer, controlChange, writeChange}
+use Rattle.controller.specs.CodeLaws.{sync-changes, sync-due-changes, fault-changes, timeout-changes, frame-ruled, slot-ruled}
+use Rattle.controller.specs.AccessLaws.{read-answers, write-changes}
+use Rattle.controller.proofs.EventLaws.{ruling-changes, slot-sends}
+use Rattle.controller.proofs.RegisterLaws.{control-changes}
 use Rattle.in_place.proofs.Element.{elem-at}
 use Rattle.in_place.proofs.Rows.{at-rows, values, value-at, row-below, window-below, byte-fits, sixteen-rows, sixteen-values, in-rows, row-is, control-is}"""
 CHANGE_IS=f"""change-is : (x : Change) (vs : List Val) → Is S.the-row x vs → {Cha.is_("x")}
@@ -454,9 +458,10 @@ def indexed(w,c,to,ask,args,ops,at):
 def changes(w,LT,ctx,x,end):
     """the change x lands in its local, and end follows"""
     w.land(x,LT[x],Cha.typed("x","is"),Cha.same("x","is")); w.keep(ctx); w.emit(end)
+def ruled_so(bytes): return f"(ap (changed h) d ∙ ruling-changes h sixteen {bytes} _ r (ap (rowAt (h .rows)) p) ∙ e)"
 def ruling(lemma,w,LT,ctx,val,held,ys,L,r,x,codes,q,bytes,goal,pre,given,change,end,tag="ruling",after=None):
     """the lemmas of a ruling r that gives the step; bytes: the frame's; pre, given: what else is known; change: the call's text, of which d is what it says; after: the context that it leaves"""
-    at="i ≡ rowIndex (r .verdict)"; FACT=f"(c : Controller) → length (c .rows) ≡ 16 → {ROW} ≡ rowAt (c .rows) (rowIndex (r .verdict)) → changed c x ≡ ruled c {bytes} r"
+    at="i ≡ rowIndex (r .verdict)"; FACT=f"x ≡ rulingChange r ({ROW}) {bytes}"
     looks(lemma,w,LT,ctx,{**val,r:Rul.val("r")},held,ys,L,codes,q,tag,f"(r : Ruling) → {Rul.is_('r')} → ruled h {bytes} r ≡ {goal} → "+pre,f"r r-is e {given}".strip(),
       lambda w:indexed(w,rows,"(to-rows r)","(asked-rows r r-is)","(r, tt)",lambda:[w.load(r)],at),at,"(row-below (r .verdict) i p)",lambda w:(change(w,FACT),changes(w,LT,after or ctx,x,end)))
 
@@ -485,9 +490,9 @@ def frame():
         w.emit("drop ! $ split ! $ "); w.give(2,["toks","own"]); w.to(["own"])
     # ---- the ruling
     start=(list(w.ctx),LT,dict(val),HELD); opens(w); w.nl(); copies(w,8); closes(w)
-    passed(ruler,"to-ruler","args-ruler","(asked-ruler was)",lambda:[w.load(8),w.load(2),w.load(3)],"Ruling","r",Rul.row(),f"ruled h f r ≡ {GOAL}","e")
+    passed(ruler,"to-ruler","args-ruler","(asked-ruler was)",lambda:[w.load(8),w.load(2),w.load(3)],"Ruling","r",Rul.row(),"r ≡ rulingFor h (frameStep good f)","e")
     w.emit(Rul.peeks("r","(v ∷ [])")+"(λ is. drop ! $ split ! $\n"); w.give(2,["t-f","true"]); w.land(4,LT[4],Rul.typed("r","is"),Rul.same("r","is"))
-    HAS=["obs","bor","tok","f","t-f"]; ctx=HAS+ALL; w.keep(ctx); w.emit("finding-ruling r (ruling-is r _ is) e"); first=w.text()
+    HAS=["obs","bor","tok","f","t-f"]; ctx=HAS+ALL; w.keep(ctx); w.emit("finding-ruling r (ruling-is r _ is) (ap (ruled h f) e ∙ frame-ruled h good f)"); first=w.text()
     held={"obs":OBS("h"),"bor":BOR,"tok":TOK,"f":"‵ Bytes","t-f":TF}
     # ---- the change is carried out, and the `return`
     ys=[8,4,5,6,9,10,11,12]; start2=(ctx,LT,{**val,**{i:f"y{i}" for i in ys},7:Cha.val("x")},held); w.ctx=list(ctx)
@@ -498,7 +503,7 @@ def frame():
     def change(w,fact):
         passed(changer,f"(to-changer r ({ROW}))",f"(args-changer r ({ROW}))",f"(asked-changer r ({ROW}) r-is k-is)",lambda:[w.load(4),w.load(6),w.load(3)],"Change","x",Cha.row(),fact,"d")
         w.emit(Cha.peeks("x","(v ∷ [])")+"(λ is. drop ! $ split ! $\n"); w.give(2,["t-f","true"])
-    ruling(lemma,w,LT,ctx,val,held,[8],L,4,7,codes("ruling"),RET,"f",GOAL,"","",change,"carrying x (change-is x _ is) (d h sixteen (ap (rowAt (h .rows)) p) ∙ e)")
+    ruling(lemma,w,LT,ctx,val,held,[8],L,4,7,codes("ruling"),RET,"f",GOAL,"","",change,"carrying x (change-is x _ is) "+ruled_so("f"))
     lemma("-- the record is copied out, and the frame's ruling is had","ruling","","ruling",piece(1),RET,start,first)
     # ---- what is asked, and what is had at exit
     w=Walk(6); w.ctx=list(end); w.emit("nothing ! $ "); w.give(0,["t"]); w.to(["t-f","t"]); w.emit("join ! $ "); w.give(2,["t"]); w.to(["tok","t"]); w.emit("join ! $ frame ! $\n"); w.give(2,[])
@@ -630,14 +635,13 @@ def write():
     # ---- below $50: the row of the window is looked at
     carried("low",7,16,[10,4]+[i for i in L.all()])
     at="i ≡ windowRow (h .control) (registerAt n)"
-    FACT=f"(c : Controller) → c .control ≡ h .control → length (c .rows) ≡ 16 → {ROW} ≡ rowAt (c .rows) (windowRow (h .control) (registerAt n)) → changed c x ≡ doneOf (stepOf c (writeStep n u))"
     looks(lemma,w,LT,ctx,{**val,4:Ctl.val("h .control")},held,[10],L,codes("low"),NEXT,"low",f"→ {Ctl.is_('h .control')} → ","d-is",lambda w:indexed(w,windows,"to-windows","(asked-windows d-is)","(h .control, (n, tt))",lambda:[w.load(4),w.load(2)],at),at,"(window-below (h .control) (registerAt n) i p)",
-      lambda w:changing(lows,f" ({ROW})",f"(asked-lows ({ROW}) d-is k-is)",7,[4,2,3,6],FACT,"carried-low x (change-is x _ is) (g h refl sixteen (ap (rowAt (h .rows)) p))"))
+      lambda w:changing(lows,f" ({ROW})",f"(asked-lows ({ROW}) d-is k-is)",7,[4,2,3,6],f"x ≡ writeChange (h .control) n u ({ROW})","carried-low x (change-is x _ is) (ap (changed h) g ∙ write-changes h sixteen n u _ (ap (rowAt (h .rows)) p))"))
     w.ctx=list(base); start=(base,LT,{**val,10:"y10"},HELD); takes_control(w,4); w.keep(ctx); w.emit("finding-low (control-is h was)")
     lemma("-- a register below $50","on-low",us([10])+"→ ","on-low","code-low",NEXT,start,w.text())
     # ---- a control register, whose buffer's number is had first
     carried("control",9,18,[10,8,17]); w.ctx=list(base); takes_control(w,8); w.assign(f"(bin ! {w.load(2)} (lit ! tt) (nltb→le n 0x50 t))",17,"(tt, record { fits = number-fits })"); w.keep(ctx)
-    changing(controls,"","(asked-controls (control-is h was))",9,[8,17,3],"(c : Controller) → c .control ≡ h .control → changed c x ≡ doneOf (stepOf c (writeStep (0x50 + (n - 0x50)) u))","carried-control x (change-is x _ is) (g h refl ∙ ap (λ (k : ℕ). doneOf (stepOf h (writeStep k u))) (let above = nltb→le n 0x50 t in omega arith))")
+    changing(controls,"","(asked-controls (control-is h was))",9,[8,17,3],"x ≡ controlChange (h .control) (n - 0x50) u","carried-control x (change-is x _ is) (ap (changed h) g ∙ control-changes h (sixteen-rows h was) n u (nltb→le n 0x50 t))")
     lemma("-- a control register","on-control",us([10])+"→ Holds (not (ltb n 0x50)) → ","on-control t","code-control",NEXT,start,w.text())
     # ---- the test
     w.ctx=list(base); start=(base,LT,dict(val),HELD); w.assign(f"(bin ! {w.load(2)} (lit ! tt) tt)",10,"(tt, tt)"); w.emit(f"first ! $ branches ! {w.load(10)}\n(λ t. on-low)\n(λ t. on-control t)")
@@ -766,9 +770,9 @@ carrying r k = seqᴹ (assignᴹ (placeᴹ r []) (addrOf (placeᴹ 1 (deref T′
 """
 
 class Arm:
-    """an arm of the match: its variant, the variables of its pattern, the function that it calls, and its step; rules: the function gives a ruling; window: it is given the control state and a row; lent: it is lent the record; frame: and the frame; resets: it gives the record after reset"""
+    """an arm of the match: its variant, the variables of its pattern, the function that it calls, and its step; rules: the function gives a ruling; window: it is given the control state and a row; lent: it is lent the record; frame: and the frame; resets: it gives the record after reset; law: what its change does"""
     def __init__(self,con,vars,home,p,step,frame=False,room=False,rules=False,window=False,lent=False,resets=False):
-        self.lent=lent; self.con=con; self.low=con.lower(); self.window=window; self.resets=resets; self.vars=vars; self.fn=Callee(self.low+"s",home,p); self.step=step; self.frame=frame; self.room=room; self.rules=rules; self.reads=con=="Read"
+        self.lent=lent; self.con=con; self.low=con.lower(); self.window=window; self.resets=resets; self.vars=vars; self.fn=Callee(self.low+"s",home,p); self.step=step; self.frame=frame; self.room=room; self.rules=rules; self.reads=con=="Read"; self.law=p.split(".")[-1].replace("_","-")+"-changes"
     def names(self): return [n for n,k in self.vars]
     def pat(self): return par(" ".join([self.con]+self.names()))
     def binders(self): return "".join(f"({n} : {den(k)}) " for n,k in self.vars)
@@ -865,7 +869,7 @@ def step():
             lends(w,carries,a.ref,"(to-carry x)","(asked-carry x x-is)","(args-carry x)",[a.out],CARRIED,last=True); w.land(ANS,LT[ANS],Ans.typed("m","is"),Ans.same("m","is"),last=True)
             ended(sorted(mine+[a.ref]),"(ws .0)","m","zs",f"({ENDS}, z) (answer-is m _ is) l")
             lemma(f"-- what `{a.con}` changes is carried out",f"carried-{a.low}",us(ys)+f"(x : Change) → {Cha.is_('x')} → changed h x ≡ doneOf (stepOf h ({STEP})) → (zs : List ℕ) → zs ≡ roomFor h call room → length zs ≡ length room → ",f"carried-{a.low} x x-is e zs z l",f"(carrying {a.ref} {a.out})",NEXT,start,w.text())
-        held={"obs":OBS("h"),"bor":BOR,"tok":TOK,**LENT,"t-room":TROOM,"fin":FIN.replace("zs","room"),"room":"‵ Room′"}; k_=f"r ({ROW})"; SAYS=f"carried-{a.low} x (change-is x _ is) (d h sixteen (ap (rowAt (h .rows)) p) ∙ e)"
+        held={"obs":OBS("h"),"bor":BOR,"tok":TOK,**LENT,"t-room":TROOM,"fin":FIN.replace("zs","room"),"room":"‵ Room′"}; k_=f"r ({ROW})"; SAYS=f"carried-{a.low} x (change-is x _ is) "+ruled_so("[]")
         if a.room:
             # the room goes on with the change
             HAS_ROOM=["obs","bor","tok","f","t-f","room","t-room"]; zs="(ws .1 .1 .0)"
@@ -879,15 +883,12 @@ def step():
             # the control state is read, then the row of its window; the room is not passed
             known_={**val,**{i:value(n,k) for i,(n,k) in zip(a.locs,a.vars)},a.d:Ctl.val("h .control")}
             at="i ≡ windowRow (h .control) (registerAt n)"; hyp=a.binders()+"→ "+a.facts()+f"{Ctl.is_('h .control')} → {a.step} ≡ {STEP} → room ≡ roomFor h call room → "; names=given+" d-is s z"
-            FACT=f"(c : Controller) → c .control ≡ h .control → length (c .rows) ≡ 16 → {ROW} ≡ rowAt (c .rows) (windowRow (h .control) (registerAt n)) → "; G_=f"g h refl sixteen (ap (rowAt (h .rows)) p)"
+            G_="read-answers h sixteen n _ (ap (rowAt (h .rows)) p)"
             def make(w):
-                res,T,D,says=("m","Answer",Ans,f"record {{ next = c; answer = m }} ≡ doneOf (stepOf c ({a.step}))") if a.reads else ("x","Change",Cha,f"changed c x ≡ doneOf (stepOf c ({a.step}))")
                 k=" ".join(a.names()+[par(ROW)]); w.emit(f"use0 W (raw ({a.fn.at()} .pre (to-{a.low} {k}))) (asked-{a.low} {k} {' '.join(a.given())} d-is k-is) $\n"); w.give(0,["pre"])
-                called(w,a.fn,f"(to-{a.low} {k})",f"(args-{a.low} {k})",[w.load(i) for i in [a.d]+a.locs+[a.row]],T,res,"v","tt","‵ ftrue",D.row(),FACT+says,"g",last=a.reads); kept_as(w,D,res)
-                if a.reads:
-                    w.land(ANS,LT[ANS],Ans.typed("m","is"),Ans.same("m","is"),last=True); w.to(["obs"]); w.emit("use1 W (‵ (fres γ (T.the-row .coded .code h))) (W .names .obs-res γ (T.the-row .coded .code h)) $\n"); w.give(1,["res"])
-                    ended(sorted(mine),"h","m","room",f"(ap (λ (u : Done). u .next) ({G_}) ∙ ap next s, ap (λ (u : Done). u .answer) ({G_}) ∙ ap answer s, z) (answer-is m _ is) refl")
-                else: changes(w,LT,HAS+ALL,a.out,f"carried-{a.low} x (change-is x _ is) ({G_} ∙ ap (λ (s : Step). doneOf (stepOf h s)) s) room z refl")
+                called(w,a.fn,f"(to-{a.low} {k})",f"(args-{a.low} {k})",[w.load(i) for i in [a.d]+a.locs+[a.row]],"Answer","m","v","tt","‵ ftrue",Ans.row(),f"m ≡ readAnswer (h .control) n ({ROW})","g",last=True); kept_as(w,Ans,"m")
+                w.land(ANS,LT[ANS],Ans.typed("m","is"),Ans.same("m","is"),last=True); w.to(["obs"]); w.emit("use1 W (‵ (fres γ (T.the-row .coded .code h))) (W .names .obs-res γ (T.the-row .coded .code h)) $\n"); w.give(1,["res"])
+                ended(sorted(mine),"h","m","room",f"(ap (λ (u : Done). u .next) ({G_}) ∙ ap next s, g ∙ ap (λ (u : Done). u .answer) ({G_}) ∙ ap answer s, z) (answer-is m _ is) refl")
             looks(lemma,w,LT,HAS+ALL,known_,held,[2],a.L,codes(a.low),NEXT,a.low,hyp,names,lambda w:indexed(w,windows,"(to-windows n)","(asked-windows n n-fits d-is)","(h .control, (n, tt))",lambda:[w.load(a.d),w.load(a.locs[0])],at),at,"(window-below (h .control) (registerAt n) i p)",make)
             w.ctx=list(base); start=(base,LT,{**val,2:"y2",**{i:value(n,k) for i,(n,k) in zip(a.locs,a.vars)}},HELD)
             takes_control(w,a.d); unpassed(w); w.keep(HAS+ALL); w.emit(f"finding-{a.low} {given} (control-is h was) s z")
@@ -900,14 +901,13 @@ def step():
         else: unpassed(w)
         w.emit(f"use0 W (raw ({a.fn.at()} .pre {a.to()})) {ask} $\n"); w.give(0,["pre"])
         ops=[w.load(i) for i in [a.copy]+a.locs+([a.L.mul] if a.room else [])]
-        says,e=f"changed h x ≡ doneOf (stepOf h ({a.step}))","e"
-        if a.room: FOR="(zs : List ℕ) → length zs ≡ length room → "; says,e=[FOR+"ruled h [] r ≡ doneOf (stepOf h (slot n zs))",FOR+"roomSent (h .rows) zs (r .verdict) ≡ stepOf h (slot n zs) .room"],["e","z₁"]
+        says="r ≡ slotRuling h n (length room)" if a.room else f"x ≡ eventChange h {par(a.step)}"
         res,T,D=("r","Ruling",Rul) if a.rules else ("x","Change",Cha)
-        called(w,a.fn,a.to(),a.args(),ops,T,res,"v","tt","‵ ftrue",D.row(),says,e); kept_as(w,D,res)
+        called(w,a.fn,a.to(),a.args(),ops,T,res,"v","tt","‵ ftrue",D.row(),says,"e"); kept_as(w,D,res)
         k=a.r if a.rules else a.out
         w.land(k,LT[k],D.typed(res,"is"),D.same(res,"is")); then="ap (λ (s : Step). doneOf (stepOf h s)) s"
-        if a.room: w.emit(f"forget ! {w.cell(a.L.mul)} refl $ "); w.keep(HAS_ROOM+ALL); w.emit(f"finding-{a.low} r (ruling-is r _ is) (e room refl ∙ {then}) (z₁ room refl ∙ z)")
-        else: w.keep(HAS+ALL); w.emit(f"carried-{a.low} x (change-is x _ is) (e ∙ {then}) room z refl")
+        if a.room: w.emit(f"forget ! {w.cell(a.L.mul)} refl $ "); w.keep(HAS_ROOM+ALL); w.emit(f"finding-{a.low} r (ruling-is r _ is) (ap (ruled h []) e ∙ slot-ruled h n room ∙ {then}) (ap (λ (r : Ruling). roomSent (h .rows) room (r .verdict)) e ∙ slot-sends h (sixteen-rows h was) n room ∙ z)")
+        else: w.keep(HAS+ALL); w.emit(f"carried-{a.low} x (change-is x _ is) (ap (changed h) e ∙ {' '.join([a.law,'h']+a.names())} ∙ {then}) room z refl")
         left=f"stepOf h ({a.step}) .room" if a.room else "room"
         lemma(f"-- {a.con}",f"on-{a.low}",us([2])+(a.binders() if a.vars else "")+"→ "+a.facts()+f"{a.step} ≡ {STEP} → {left} ≡ roomFor h call room → ",f"on-{a.low} {given} s z".replace("  "," "),f"code-{a.low}",NEXT,start,w.text())
     # ---- the match

@@ -87,13 +87,3 @@ frame-simple c good i n = bus-simple c _ _ (says (woken c) Woke) (judged-simple 
 
 pub slot-simple : (c : Control) (i n : ℕ) → Simple (sleepsOn c (slotFor c i n))
 slot-simple c i n = bus-simple c _ _ (says c Ignored) (slotFor-simple c i n)
-
-pub wakes-simple : (c d : Control) (a : Answer) → Simple (wakes c (plain d a))
-wakes-simple c d a = bus-simple c _ _ (says (woken c) Woke) (says d a)
-
-pub sleeps-simple : (c d : Control) (a : Answer) → Simple (sleepsOn c (plain d a))
-sleeps-simple c d a = bus-simple c _ _ (says c Ignored) (says d a)
-
-pub due-simple : (c : Control) (m : ℕ) → Simple (sleepsOn c (dueOf c m))
-unfolding dueOf
-due-simple c m = bus-simple c _ _ (says c Ignored) (pick-keeps Simple (c .mode .master) (λ t. says _ _) (λ t. says c Ignored))

@@ -1,61 +1,42 @@
 -- Laws of the register calls.
-use Prim.Native.Nat.{ℕ, _≤_, _<_}
+use Prim.Native.Nat.{ℕ, _+_, _-_, _≤_, _<_}
 use mathlib.Core.Path.{_≡_, refl, sym, ap, _∙_}
 use mathlib.Core.List.{List, [], _∷_}
 use mathlib.Core.Bool.{not}
 use native.Mathlib.Omega.{arith}
-use borrow.Author.Tests.{ltb-false}
-use lib.Dec.{T, ltb}
-use lib.ListN.{length, getD, set, length-map, List·getD-eq-default}
-use lib.Seq.{set-out}
+use borrow.Author.Tests.{ltb-false, eqb-true}
+use lib.Dec.{T, eqb, ltb}
+use lib.ListN.{length, length-map}
 use types.Run.{OneOf, miss}
 use mir.Val.{Val, hasKey}
 use denote.Shadow.{shadow}
 use denote.Struct.Declared.{row}
 use denote.Enum.Declared.{tagOf}
-use Rattle.masks.specs.PickLaws.{pick-true, by-test}
+use Rattle.masks.specs.PickLaws.{pick-true, pick-false, by-test}
 use Rattle.contents.proofs.Contents.{the-type as the-contents}
 use Rattle.contents.specs.declared.Contents.{Contents}
-use Rattle.contents.specs.Bytes.{noContents}
+use Rattle.rules.specs.declared.Answer.the-variants.{Ok}
 use Rattle.rules.specs.declared.Control.{Control}
 use Rattle.rules.proofs.Register.{the-type as the-register}
 use Rattle.rules.specs.declared.Register.{Register}
 use Rattle.rules.specs.Registers.{Region, sendPlace, receivePlace, fifoPlace, elsewhere, regionOf}
 use Rattle.rules.specs.declared.Register.the-variants.{Mcr, Fsizr, Tcr1, Tcr2, Tcr3, Risr, Gisr, Rier, Gier, Rivec, Tivec, Fidac, Fidmr, Mvr, Pctlbf, Buflock, Fidrj, Fidrmr, TransmitWindow, ReceiveWindow, FifoWindow, Bufctl, Reserved}
+use Rattle.rules.specs.Steps.{write}
 use Rattle.rules.specs.Reads.{valueOf}
+use Rattle.rules.specs.Writes.{written}
 use Rattle.rules.specs.Refusals.{refuses1, firstOf, writeRefusal}
 use Rattle.controller.specs.declared.Controller.{Controller}
-use Rattle.controller.specs.Carry.{rowAt}
-use Rattle.controller.specs.Code.{holderIn, valueIn, rowsIn, holderOf, windowByte, registerValue, writePlace, writeWindow, writtenRows, rowBytes}
-use Rattle.controller.proofs.EventLaws.{bytes-in}
+use Rattle.writes.specs.Code.{control-at}
+use Rattle.controller.specs.Session.{stepOf}
+use Rattle.controller.specs.Calls.{doneOf}
+use Rattle.controller.specs.Code.{saying, changed, holderIn, holderOf, valueIn, registerValue, changeIn, registerChange, controlChange, writeChange}
+use Rattle.controller.specs.AccessLaws.{write-changes}
 use Rattle.controller.proofs.Controller.{the-type as the-controller}
 
 -- ---- a controller that the code holds has sixteen rows
 
 pub sixteen-rows : (c : Controller) (vs : List Val) → shadow (row the-controller .own c vs) → length (c .rows) ≡ 16
 sixteen-rows c vs good = sym (length-map (c .rows) (the-contents .to)) ∙ good .1 .1 .1 .0 .1 .0 .1
-
--- ---- a window with no holder
-
-module _ (rows : List Contents) (n p : ℕ) (sixteen : length rows ≡ 16) (none : 16 ≤ n) where
-  pub none-read : windowByte rows n p ≡ 0
-  unfolding windowByte
-  none-read =
-      let past : length rows ≤ n = omega arith in
-      ap (λ (b : Contents). getD (b .bytes) p 0) (List·getD-eq-default rows noContents past)
-
-  pub none-written : (v : ℕ) → writeWindow rows n p v ≡ rows
-  unfolding writeWindow
-  none-written v = set-out rows n (writePlace (rowAt rows n) p v) (omega arith)
-
--- ---- a window written, w being what `write_place` gives over the holder's bytes b
-
-pub written-in : (rows : List Contents) (n p v : ℕ) (b w : List ℕ) → n < 16 → b ≡ rowBytes rows n → w ≡ writePlace (record { bytes = b }) p v .bytes →
-    set rows n (record { bytes = w }) ≡ writeWindow rows n p v
-unfolding writeWindow
-written-in rows n p v b w h e q =
-    ap (λ (x : List ℕ). set rows n (record { bytes = x })) q
-    ∙ ap (λ (x : List ℕ). set rows n (writePlace (record { bytes = x }) p v)) (e ∙ sym (bytes-in rows n h))
 
 -- ---- the registers that have no arm of their own, by their places in the declaration
 
@@ -113,35 +94,52 @@ pub no-holder : (c : Control) (r : Register) → OneOf allButWindows (tagOf the-
 unfolding holderOf
 no-holder c r h = region-holder c (regionOf r) _ (tag-region r) h
 
-module _ (c : Controller) where
-  region-value : (g : Region) (v t : ℕ) → tagged g t → OneOf allButWindows t → v ≡ valueIn c g v
+module _ (c : Control) (row : Contents) where
+  region-value : (g : Region) (v t : ℕ) → tagged g t → OneOf allButWindows t → v ≡ valueIn c row g v
   unfolding tagged
   region-value (sendPlace p) v t e h = left-out allButWindows t 18 tt e h
   region-value (receivePlace p) v t e h = left-out allButWindows t 19 tt e h
   region-value (fifoPlace p) v t e h = left-out allButWindows t 20 tt e h
   region-value elsewhere v t e h = refl
 
-  pub other-value : (r : Register) → OneOf allButWindows (tagOf the-register r) → valueOf (c .control) r ≡ registerValue c r
+  pub other-value : (r : Register) → OneOf allButWindows (tagOf the-register r) → valueOf c r ≡ registerValue c r row
   unfolding registerValue
-  other-value r h = region-value (regionOf r) (valueOf (c .control) r) _ (tag-region r) h
+  other-value r h = region-value (regionOf r) (valueOf c r) _ (tag-region r) h
 
-  region-rows : (g : Region) (v t : ℕ) → tagged g t → OneOf allButWritable t → c .rows ≡ rowsIn c g v
+  region-change : (d : Control) (g : Region) (v t : ℕ) → tagged g t → OneOf allButWritable t → saying d Ok ≡ changeIn c d row g v
   unfolding tagged
-  region-rows (sendPlace p) v t e h = left-out allButWritable t 18 tt e h
-  region-rows (receivePlace p) v t e h = left-out allButWritable t 19 tt e h
-  region-rows (fifoPlace p) v t e h = refl
-  region-rows elsewhere v t e h = refl
+  region-change d (sendPlace p) v t e h = left-out allButWritable t 18 tt e h
+  region-change d (receivePlace p) v t e h = left-out allButWritable t 19 tt e h
+  region-change d (fifoPlace p) v t e h = refl
+  region-change d elsewhere v t e h = refl
 
-  pub other-rows : (r : Register) (v : ℕ) → OneOf allButWritable (tagOf the-register r) → c .rows ≡ writtenRows c r v
-  unfolding writtenRows
-  other-rows r v h = region-rows (regionOf r) v _ (tag-region r) h
+  pub other-change : (d : Control) (r : Register) (v : ℕ) → OneOf allButWritable (tagOf the-register r) → saying d Ok ≡ registerChange c d r v row
+  unfolding registerChange
+  other-change d r v h = region-change d (regionOf r) v _ (tag-region r) h
 
--- ---- refusal 1
+-- ---- the control registers
 
 -- what is accepted is written at or below $5F
-pub accepted-below : (c : Control) (a v : ℕ) → writeRefusal c a v ≡ 0 → a < 0x60
+accepted-below : (c : Control) (a v : ℕ) → writeRefusal c a v ≡ 0 → a < 0x60
 unfolding writeRefusal firstOf refuses1
 accepted-below c a v e =
     by-test (ltb 0x5F a)
     (λ t. absurd (let z : _≡_ {A = ℕ} 1 0 = sym (pick-true (ltb 0x5F a) 1 _ t) ∙ e in omega arith))
     (λ t. let below = ltb-false 0x5F a t in omega arith)
+
+-- their own path is that of any write
+pub control-written : (c : Control) (a v : ℕ) (row : Contents) → 0x50 ≤ a → controlChange c (a - 0x50) v ≡ writeChange c a v row
+unfolding controlChange writeChange registerChange
+control-written c a v row h = same (a - 0x50) ∙ ap (λ (k : ℕ). writeChange c k v row) (omega arith)
+  where
+    same : (n : ℕ) → controlChange c n v ≡ writeChange c (0x50 + n) v row
+    same n =
+        by-test (eqb (writeRefusal c (0x50 + n) v) 0)
+        (λ t.
+        let none = eqb-true (writeRefusal c (0x50 + n) v) 0 t in
+        let register = control-at (0x50 + n) (omega arith) (accepted-below c (0x50 + n) v none) ∙ ap Bufctl {y = n} (omega arith) in
+        pick-true (eqb (writeRefusal c (0x50 + n) v) 0) _ _ t ∙ ap (λ (r : Register). registerChange c (written c r v) r v row) (sym register) ∙ sym (pick-true (eqb (writeRefusal c (0x50 + n) v) 0) _ _ t))
+        (λ t. pick-false (eqb (writeRefusal c (0x50 + n) v) 0) _ _ t ∙ sym (pick-false (eqb (writeRefusal c (0x50 + n) v) 0) _ _ t))
+
+pub control-changes : (c : Controller) → length (c .rows) ≡ 16 → (a v : ℕ) → 0x50 ≤ a → changed c (controlChange (c .control) (a - 0x50) v) ≡ doneOf (stepOf c (write a v))
+control-changes c sixteen a v h = ap (changed c) (control-written (c .control) a v _ h) ∙ write-changes c sixteen a v _ refl

@@ -1,5 +1,5 @@
--- What the controller's methods return, in the terms of the code: a ruling carried out, a register read, a window written.
-use Prim.Native.Nat.{ℕ, _-_, _%_}
+-- What the controller's functions return, in the terms of the code: rulings, changes and answers, and what they do to the record.
+use Prim.Native.Nat.{ℕ, _+_, _-_, _%_}
 use mathlib.Core.List.{List}
 use lib.ListN.{getD, set, drop, length, replicate}
 use lib.Dec.{eqb, ltb}
@@ -8,19 +8,25 @@ use Rattle.contents.specs.declared.Contents.{Contents}
 use Rattle.contents.specs.Bytes.{withIdent, withLength, withData, storeFrame, frameOf, fillRoom}
 use Rattle.sending.specs.CodeRoom.{roomAfter}
 use Rattle.rules.specs.declared.Answer.{Answer}
-use Rattle.rules.specs.declared.Answer.the-variants.{Ok, Sent}
+use Rattle.rules.specs.declared.Answer.the-variants.{Ok, Value, Sent, Refused}
 use Rattle.rules.specs.declared.Register.{Register}
-use Rattle.rules.specs.Registers.{Region, sendPlace, receivePlace, fifoPlace, elsewhere, regionOf}
+use Rattle.rules.specs.declared.Register.the-variants.{Bufctl}
+use Rattle.rules.specs.Registers.{Region, sendPlace, receivePlace, fifoPlace, elsewhere, regionOf, registerAt}
 use Rattle.rules.specs.declared.Verdict.{Verdict}
 use Rattle.rules.specs.declared.Verdict.the-variants.{Say, Store, Send}
 use Rattle.rules.specs.declared.Ruling.{Ruling}
 use Rattle.rules.specs.declared.Control.{Control}
 use Rattle.rules.specs.Kinds.{fifoHolder}
 use Rattle.rules.specs.Reads.{valueOf}
+use Rattle.rules.specs.Writes.{written}
+use Rattle.rules.specs.Refusals.{readRefusal, writeRefusal}
+use Rattle.rules.specs.Steps.{Step, slot}
+use Rattle.rules.specs.Rules.{decide}
+use Rattle.bus_steps.specs.Code.{rulingOf}
 use Rattle.controller.specs.declared.Controller.{Controller}
 use Rattle.controller.specs.declared.Done.{Done}
 use Rattle.controller.specs.declared.Change.{Change}
-use Rattle.controller.specs.Carry.{rowAt}
+use Rattle.controller.specs.Carry.{heads, rowAt}
 
 -- the record unchanged, with an answer
 abbrev pub answered : Controller → Answer → Done
@@ -36,6 +42,10 @@ saying d a = record { control = d; buffer = 16; bytes = replicate 14 0; answer =
 abbrev pub placing : Control → ℕ → List ℕ → Answer → Change
 placing d n b a = record { control = d; buffer = n; bytes = b; answer = a }
 
+-- the same for any n: from 16 on there is no buffer
+abbrev pub putting : Control → ℕ → List ℕ → Answer → Change
+putting d n b a = pick (ltb n 16) (placing d n b a) (saying d a)
+
 -- the buffers' bytes after it: one buffer's below 16, else as they were
 unfoldable pub placed : List Contents → ℕ → List ℕ → List Contents
 placed rows n bytes = pick (ltb n 16) (set rows n (record { bytes = bytes })) rows
@@ -43,30 +53,15 @@ placed rows n bytes = pick (ltb n 16) (set rows n (record { bytes = bytes })) ro
 abbrev pub changed : Controller → Change → Done
 changed c x = record { next = record { control = x .control; rows = placed (c .rows) (x .buffer) (x .bytes) }; answer = x .answer }
 
--- ---- a ruling carried out, the step's frame being f
+-- ---- rulings of the bus, and the changes of the events that only answer
 
--- the fourteen bytes of buffer n, zeros past the last
-unfoldable pub rowBytes : List Contents → ℕ → List ℕ
-rowBytes rows n = pick (ltb n 16) (rowAt rows n .bytes) (replicate 14 0)
+-- what the rules decide of a step of the bus, as a ruling
+unfoldable pub rulingFor : Controller → Step → Ruling
+rulingFor c e = rulingOf (decide (c .control) (heads (c .rows)) e)
 
-abbrev pub storedRow : List Contents → ℕ → List ℕ → List Contents
-storedRow rows n f = set rows n (storeFrame (rowAt rows n) (getD f 0 0) (getD f 1 0) (drop 2 f))
-
-abbrev pub rowsBy : List Contents → List ℕ → Verdict → List Contents
-rowsBy rows f (Say a) = rows
-rowsBy rows f (Store n a) = storedRow rows n f
-rowsBy rows f (Send n) = rows
-
-abbrev pub answerBy : List Contents → Verdict → Answer
-answerBy rows (Say a) = a
-answerBy rows (Store n a) = a
-answerBy rows (Send n) = Sent (length (frameOf (rowAt rows n)))
-
--- index of the row of a verdict's buffer; any row where it names none
-abbrev pub rowIndex : Verdict → ℕ
-rowIndex (Say a) = 0
-rowIndex (Store n a) = n % 16
-rowIndex (Send n) = n % 16
+-- the ruling on slot i for a room of a size: the rules look at no byte of it
+abbrev pub slotRuling : Controller → ℕ → ℕ → Ruling
+slotRuling c i size = rulingFor c (slot i (replicate size 0))
 
 -- the control state d with the configuration and the locks of c: after an event of the bus, from c, that is d itself
 unfoldable pub keptFrom : Control → Control → Control
@@ -77,6 +72,53 @@ abbrev pub saidBy : Verdict → Answer
 saidBy (Say a) = a
 saidBy (Store n a) = a
 saidBy (Send n) = Ok
+
+-- a ruling that only answers, from the control state c
+abbrev pub saidChange : Control → Ruling → Change
+saidChange c r = saying (keptFrom c (r .next)) (saidBy (r .verdict))
+
+-- an event that only answers: a sync, a sync due, a fault, a timeout
+abbrev pub eventChange : Controller → Step → Change
+eventChange c e = saidChange (c .control) (rulingFor c e)
+
+-- ---- a ruling as a change, from the row of its buffer, the step's frame being f
+
+-- index of the row of a verdict's buffer; any row where it names none
+abbrev pub rowIndex : Verdict → ℕ
+rowIndex (Say a) = 0
+rowIndex (Store n a) = n % 16
+rowIndex (Send n) = n % 16
+
+-- the fourteen bytes of buffer n, zeros past the last
+unfoldable pub bytesAt : ℕ → Contents → List ℕ
+bytesAt n row = pick (ltb n 16) (row .bytes) (replicate 14 0)
+
+abbrev pub rowBytes : List Contents → ℕ → List ℕ
+rowBytes rows n = bytesAt n (rowAt rows n)
+
+-- the frame f over a buffer's contents
+abbrev pub frameOver : List ℕ → Contents → Contents
+frameOver f row = storeFrame row (getD f 0 0) (getD f 1 0) (drop 2 f)
+
+abbrev pub changeBy : Control → Contents → List ℕ → Verdict → Change
+changeBy d row f (Say a) = saying d a
+changeBy d row f (Store n a) = putting d n (frameOver f row .bytes) a
+changeBy d row f (Send n) = saying d (Sent (length (frameOf (record { bytes = bytesAt n row }))))
+
+unfoldable pub rulingChange : Ruling → Contents → List ℕ → Change
+rulingChange r row f = changeBy (r .next) row f (r .verdict)
+
+-- ---- a ruling carried out
+
+abbrev pub rowsBy : List Contents → List ℕ → Verdict → List Contents
+rowsBy rows f (Say a) = rows
+rowsBy rows f (Store n a) = set rows n (frameOver f (rowAt rows n))
+rowsBy rows f (Send n) = rows
+
+abbrev pub answerBy : List Contents → Verdict → Answer
+answerBy rows (Say a) = a
+answerBy rows (Store n a) = a
+answerBy rows (Send n) = Sent (length (frameOf (rowAt rows n)))
 
 -- the room afterwards
 abbrev pub roomBy : List Contents → List ℕ → Verdict → List ℕ
@@ -95,9 +137,9 @@ ruled c f r = record { next = record { control = r .next; rows = rowsBy (c .rows
 
 -- ---- registers
 
--- place p of the window whose holder is n, 0 with no holder
-unfoldable pub windowByte : List Contents → ℕ → ℕ → ℕ
-windowByte rows n p = getD (rowAt rows n .bytes) p 0
+-- place p of the window whose holder is n, n's row being given; 0 with no holder
+unfoldable pub windowByte : ℕ → ℕ → Contents → ℕ
+windowByte n p row = pick (ltb n 16) (getD (row .bytes) p 0) 0
 
 abbrev pub holderIn : Control → Region → ℕ
 holderIn c (sendPlace p) = c .transmit .holder
@@ -113,29 +155,48 @@ holderOf c r = holderIn c (regionOf r)
 abbrev pub windowRow : Control → Register → ℕ
 windowRow c r = holderOf c r % 16
 
-abbrev pub valueIn : Controller → Region → ℕ → ℕ
-valueIn c (sendPlace p) v = windowByte (c .rows) (c .control .transmit .holder) p
-valueIn c (receivePlace p) v = windowByte (c .rows) (c .control .receive .holder) p
-valueIn c (fifoPlace p) v = windowByte (c .rows) (fifoHolder (c .control)) p
-valueIn c elsewhere v = v
+abbrev pub valueIn : Control → Contents → Region → ℕ → ℕ
+valueIn c row (sendPlace p) v = windowByte (c .transmit .holder) p row
+valueIn c row (receivePlace p) v = windowByte (c .receive .holder) p row
+valueIn c row (fifoPlace p) v = windowByte (fifoHolder c) p row
+valueIn c row elsewhere v = v
 
--- what a register of the controller reads
-unfoldable pub registerValue : Controller → Register → ℕ
-registerValue c r = valueIn c (regionOf r) (valueOf (c .control) r)
+-- what a register reads; row is that of its window's holder, here and below
+unfoldable pub registerValue : Control → Register → Contents → ℕ
+registerValue c r row = valueIn c row (regionOf r) (valueOf c r)
+
+-- the answer to the read of address a
+unfoldable pub readAnswer : Control → ℕ → Contents → Answer
+readAnswer c a row =
+    let k = readRefusal c a in
+    pick (eqb k 0) (Value (registerValue c (registerAt a) row)) (Refused k)
 
 -- place p of a buffer's window written
 unfoldable pub writePlace : Contents → ℕ → ℕ → Contents
 writePlace b p v = pick (eqb p 0) (withIdent b v) (pick (eqb p 1) (withLength b (v % 16)) (withData b (p - 2) v))
 
-unfoldable pub writeWindow : List Contents → ℕ → ℕ → ℕ → List Contents
-writeWindow rows n p v = set rows n (writePlace (rowAt rows n) p v)
+-- the window of buffer n, 16 or more for none, with place p written; d is the control state after it
+abbrev pub windowChange : Control → ℕ → ℕ → ℕ → Contents → Change
+windowChange d n p v row = putting d n (writePlace row p v .bytes) Ok
 
-abbrev pub rowsIn : Controller → Region → ℕ → List Contents
-rowsIn c (sendPlace p) v = writeWindow (c .rows) (c .control .transmit .holder) p v
-rowsIn c (receivePlace p) v = writeWindow (c .rows) (c .control .receive .holder) p v
-rowsIn c (fifoPlace p) v = c .rows
-rowsIn c elsewhere v = c .rows
+abbrev pub changeIn : Control → Control → Contents → Region → ℕ → Change
+changeIn c d row (sendPlace p) v = windowChange d (c .transmit .holder) p v row
+changeIn c d row (receivePlace p) v = windowChange d (c .receive .holder) p v row
+changeIn c d row (fifoPlace p) v = saying d Ok
+changeIn c d row elsewhere v = saying d Ok
 
--- the buffers' bytes after the write of a register
-unfoldable pub writtenRows : Controller → Register → ℕ → List Contents
-writtenRows c r v = rowsIn c (regionOf r) v
+-- the write of a register that gives the control state d, from c, which says the holders
+unfoldable pub registerChange : Control → Control → Register → ℕ → Contents → Change
+registerChange c d r v row = changeIn c d row (regionOf r) v
+
+-- the write of buffer n's control register
+unfoldable pub controlChange : Control → ℕ → ℕ → Change
+controlChange c n v =
+    let k = writeRefusal c (0x50 + n) v in
+    pick (eqb k 0) (saying (written c (Bufctl n) v) Ok) (saying c (Refused k))
+
+-- the write of address a
+unfoldable pub writeChange : Control → ℕ → ℕ → Contents → Change
+writeChange c a v row =
+    let k = writeRefusal c a v in
+    pick (eqb k 0) (registerChange c (written c (registerAt a) v) (registerAt a) v row) (saying c (Refused k))

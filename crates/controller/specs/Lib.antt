@@ -16,3 +16,4 @@ pub mod UntouchedLaws
 pub mod RowLaws
 pub mod Code
 pub mod CodeLaws
+pub mod AccessLaws

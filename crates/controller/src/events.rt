@@ -1,18 +1,15 @@
 // What the bus events change.
 ghost use mathlib.Core.Path.{_≡_};
-ghost use Prim.Native.Nat.{ℕ, _%_};
+ghost use Prim.Native.Nat.{_%_};
 ghost use mathlib.Core.List.{List, []};
-ghost use lib.ListN.{length};
 ghost use Rattle.contents.specs.declared.Contents.{Contents};
 ghost use Rattle.rules.specs.Bus.{lookup, offers};
 ghost use Rattle.masks.specs.Bits.{highest, maskOf};
 ghost use Rattle.bus_steps.specs.Code.{isReady};
-ghost use Rattle.rules.specs.Steps.Step.{sync, syncDue, slot, frame, fault, timeout};
+ghost use Rattle.rules.specs.Steps.Step.{sync, syncDue, frame, fault, timeout};
 ghost use Rattle.controller.specs.declared.Controller.{Controller};
 ghost use Rattle.controller.specs.Carry.{heads, rowAt};
-ghost use Rattle.controller.specs.Session.{stepOf};
-ghost use Rattle.controller.specs.Calls.{doneOf};
-ghost use Rattle.controller.specs.Code.{storedRow, rowBytes, rowIndex, saidBy, keptFrom, ruled, roomSent, changed, saying};
+ghost use Rattle.controller.specs.Code.{putting, rulingFor, slotRuling, keptFrom, saidChange, eventChange, rowIndex, bytesAt, frameOver, rulingChange, roomSent};
 use crate::Change;
 use crate::Controller;
 use crate::changes::with_answer;
@@ -35,7 +32,7 @@ pub(crate) fn row_index(n: u8) -> usize
 
 // The bytes of buffer n, whose row is given; zeros for no buffer.
 fn bytes_at(n: u8, row: Contents) -> [u8; 14]
-    ensures { λ b. ⌜ ((rows : List Contents) → row ≡ rowAt rows (n % 16) → b ≡ rowBytes rows n) ⌝ }
+    ensures { λ b. ⌜ b ≡ bytesAt n row ⌝ }
 {
     if NONE <= n {
         return [0u8; 14];
@@ -45,7 +42,7 @@ fn bytes_at(n: u8, row: Contents) -> [u8; 14]
 
 // The frame f stored in buffer n, whose row is given, with the control state c after it.
 fn stored(c: Control, n: u8, row: Contents, f: &[u8], a: Answer) -> Change
-    ensures { λ x. ⌜ ((d : Controller) → length (d .rows) ≡ 16 → row ≡ rowAt (d .rows) (n % 16) → changed d x ≡ record { next = record { control = c; rows = storedRow (d .rows) n (now (f .entry)) }; answer = a }) ⌝ }
+    ensures { λ x. ⌜ x ≡ putting c n (frameOver (now (f .entry)) row .bytes) a ⌝ }
 {
     if NONE <= n {
         return with_answer(c, a);
@@ -71,7 +68,7 @@ fn kept_from(c: Control, d: Control) -> Control
 
 // A ruling that only answers, as a change of the control state c.
 fn said(c: Control, r: Ruling) -> Change
-    ensures { λ x. ⌜ x ≡ saying (keptFrom c (r .next)) (saidBy (r .verdict)) ⌝ }
+    ensures { λ x. ⌜ x ≡ saidChange c r ⌝ }
 {
     let d = r.next;
     let control = kept_from(c, d);
@@ -125,7 +122,7 @@ fn named(c: Controller) -> u16
 
 // A sync of a kind.
 pub fn sync(c: Controller, k: SyncKind) -> Change
-    ensures { λ x. ⌜ changed c x ≡ doneOf (stepOf c (sync k)) ⌝ }
+    ensures { λ x. ⌜ x ≡ eventChange c (sync k) ⌝ }
 {
     let d = c.control;
     said(d, bus_steps::on_sync(d, k, named(c)))
@@ -133,7 +130,7 @@ pub fn sync(c: Controller, k: SyncKind) -> Change
 
 // A sync due.
 pub fn sync_due(c: Controller) -> Change
-    ensures { λ x. ⌜ changed c x ≡ doneOf (stepOf c syncDue) ⌝ }
+    ensures { λ x. ⌜ x ≡ eventChange c syncDue ⌝ }
 {
     let d = c.control;
     said(d, bus_steps::on_due(d, named(c)))
@@ -141,7 +138,7 @@ pub fn sync_due(c: Controller) -> Change
 
 // A fault of the bus.
 pub fn fault(c: Controller, k: Fault) -> Change
-    ensures { λ x. ⌜ changed c x ≡ doneOf (stepOf c (fault k)) ⌝ }
+    ensures { λ x. ⌜ x ≡ eventChange c (fault k) ⌝ }
 {
     let d = c.control;
     said(d, bus_steps::on_fault(d, k))
@@ -149,7 +146,7 @@ pub fn fault(c: Controller, k: Fault) -> Change
 
 // The alarm timeout.
 pub fn timeout(c: Controller) -> Change
-    ensures { λ x. ⌜ changed c x ≡ doneOf (stepOf c timeout) ⌝ }
+    ensures { λ x. ⌜ x ≡ eventChange c timeout ⌝ }
 {
     let d = c.control;
     said(d, bus_steps::on_timeout(d))
@@ -160,7 +157,7 @@ pub fn timeout(c: Controller) -> Change
 
 // The ruling on a frame: its verdict and its bytes.
 pub fn frame_ruling(c: Controller, good: bool, f: &[u8]) -> Ruling
-    ensures { λ r. ⌜ ruled c (now (f .entry)) r ≡ doneOf (stepOf c (frame good (now (f .entry)))) ⌝ }
+    ensures { λ r. ⌜ r ≡ rulingFor c (frame good (now (f .entry))) ⌝ }
 {
     let d = c.control;
     if !receiving::well_sized(f) {
@@ -175,8 +172,7 @@ pub fn frame_ruling(c: Controller, good: bool, f: &[u8]) -> Ruling
 
 // The ruling on slot i for a room of a size.
 pub fn slot_ruling(c: Controller, i: u8, size: usize) -> Ruling
-    ensures { λ r. ⌜ ((room : List ℕ) → length room ≡ size → ruled c [] r ≡ doneOf (stepOf c (slot i room))) ⌝ }
-    ensures { λ r. ⌜ ((room : List ℕ) → length room ≡ size → roomSent (c .rows) room (r .verdict) ≡ stepOf c (slot i room) .room) ⌝ }
+    ensures { λ r. ⌜ r ≡ slotRuling c i size ⌝ }
 {
     let d = c.control;
     if size < 14 {
@@ -202,7 +198,7 @@ pub fn row_of(r: Ruling) -> usize
 
 // A ruling as a change, from its buffer's row and the step's frame f.
 pub fn ruling_change(r: Ruling, row: Contents, f: &[u8]) -> Change
-    ensures { λ x. ⌜ ((c : Controller) → length (c .rows) ≡ 16 → row ≡ rowAt (c .rows) (rowIndex (r .verdict)) → changed c x ≡ ruled c (now (f .entry)) r) ⌝ }
+    ensures { λ x. ⌜ x ≡ rulingChange r row (now (f .entry)) ⌝ }
 {
     let control = r.next;
     let verdict = r.verdict;
@@ -218,7 +214,7 @@ pub fn ruling_change(r: Ruling, row: Contents, f: &[u8]) -> Change
 
 // What a slot's ruling changes, from its buffer's row; a sent frame fills the room's first bytes.
 pub fn slot_change(r: Ruling, row: Contents, room: &mut [u8]) -> Change
-    ensures { λ x. ⌜ ((c : Controller) → length (c .rows) ≡ 16 → row ≡ rowAt (c .rows) (rowIndex (r .verdict)) → changed c x ≡ ruled c [] r) ⌝ }
+    ensures { λ x. ⌜ x ≡ rulingChange r row [] ⌝ }
     ensures { λ _. ⌜ ((c : Controller) → row ≡ rowAt (c .rows) (rowIndex (r .verdict)) → now (room .exit) ≡ roomSent (c .rows) (now (room .entry)) (r .verdict)) ⌝ }
 {
     let verdict = r.verdict;

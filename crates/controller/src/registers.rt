@@ -1,18 +1,8 @@
 // What the register calls answer and change. A window shows one buffer: its holder's row is looked up first and given here, so that a
 // step in place reads no more than this row.
 ghost use mathlib.Core.Path.{_≡_};
-ghost use Prim.Native.Nat.{_+_, _%_};
-ghost use mathlib.Core.List.{List};
-ghost use lib.ListN.{length};
-ghost use Rattle.contents.specs.declared.Contents.{Contents};
 ghost use Rattle.rules.specs.Registers.{registerAt};
-ghost use Rattle.rules.specs.declared.Answer.the-variants.{Ok};
-ghost use Rattle.rules.specs.Steps.Step.{read, write};
-ghost use Rattle.controller.specs.declared.Controller.{Controller};
-ghost use Rattle.controller.specs.Carry.{resetState, rowAt};
-ghost use Rattle.controller.specs.Session.{stepOf};
-ghost use Rattle.controller.specs.Calls.{doneOf};
-ghost use Rattle.controller.specs.Code.{answered, changed, holderOf, windowRow, windowByte, registerValue, writePlace, writeWindow, writtenRows};
+ghost use Rattle.controller.specs.Code.{holderOf, windowRow, windowByte, registerValue, readAnswer, writePlace, windowChange, registerChange, controlChange, writeChange};
 use crate::Change;
 use crate::changes::with_answer;
 use crate::changes::with_bytes;
@@ -50,7 +40,7 @@ fn holder_of(c: Control, register: Register) -> u8
 
 // Place p of the window whose holder is n, 0 with no holder, n's row being given.
 fn window_byte(n: u8, p: u8, row: Contents) -> u8
-    ensures { λ r. ⌜ ((rows : List Contents) → length rows ≡ 16 → row ≡ rowAt rows (n % 16) → r ≡ windowByte rows n p) ⌝ }
+    ensures { λ r. ⌜ r ≡ windowByte n p row ⌝ }
 {
     if NONE <= n {
         return 0;
@@ -61,7 +51,7 @@ fn window_byte(n: u8, p: u8, row: Contents) -> u8
 
 // What a register reads, in the control state c; row is that of its window's holder.
 fn register_value(c: Control, register: Register, row: Contents) -> u8
-    ensures { λ r. ⌜ ((d : Controller) → d .control ≡ c → length (d .rows) ≡ 16 → row ≡ rowAt (d .rows) (windowRow c register) → r ≡ registerValue d register) ⌝ }
+    ensures { λ r. ⌜ r ≡ registerValue c register row ⌝ }
 {
     match register {
         Register::TransmitWindow(p) => window_byte(c.transmit.holder, p, row),
@@ -73,7 +63,7 @@ fn register_value(c: Control, register: Register, row: Contents) -> u8
 
 // The window of buffer n, 16 or more for none, with place p written over its row, the control state being c.
 fn write_window(c: Control, n: u8, p: u8, v: u8, row: Contents) -> Change
-    ensures { λ x. ⌜ ((d : Controller) → length (d .rows) ≡ 16 → row ≡ rowAt (d .rows) (n % 16) → changed d x ≡ record { next = record { control = c; rows = writeWindow (d .rows) n p v }; answer = Ok }) ⌝ }
+    ensures { λ x. ⌜ x ≡ windowChange c n p v row ⌝ }
 {
     if NONE <= n {
         return with_answer(c, Answer::Ok);
@@ -84,7 +74,7 @@ fn write_window(c: Control, n: u8, p: u8, v: u8, row: Contents) -> Change
 
 // The write of a register that gives the control state c, the holders being those of the control state before it.
 fn write_rows(holders: Control, c: Control, register: Register, v: u8, row: Contents) -> Change
-    ensures { λ x. ⌜ ((d : Controller) → d .control ≡ holders → length (d .rows) ≡ 16 → row ≡ rowAt (d .rows) (windowRow holders register) → changed d x ≡ record { next = record { control = c; rows = writtenRows d register v }; answer = Ok }) ⌝ }
+    ensures { λ x. ⌜ x ≡ registerChange holders c register v row ⌝ }
 {
     match register {
         Register::TransmitWindow(p) => write_window(c, holders.transmit.holder, p, v, row),
@@ -96,7 +86,7 @@ fn write_rows(holders: Control, c: Control, register: Register, v: u8, row: Cont
 // What a write of buffer n's control register changes, the control state being c. Test code writes these registers most: they
 // have a path of their own from the address on.
 pub fn control_change(c: Control, n: u8, v: u8) -> Change
-    ensures { λ x. ⌜ ((d : Controller) → d .control ≡ c → changed d x ≡ doneOf (stepOf d (write (0x50 + n) v))) ⌝ }
+    ensures { λ x. ⌜ x ≡ controlChange c n v ⌝ }
 {
     let k = refusals::control_write_refusal(c, n, v);
     if k != 0 {
@@ -114,7 +104,7 @@ pub fn window_row(c: Control, a: u8) -> usize
 
 // The answer to a register read, in the control state c, with that row.
 pub fn read_answer(c: Control, a: u8, row: Contents) -> Answer
-    ensures { λ r. ⌜ ((d : Controller) → d .control ≡ c → length (d .rows) ≡ 16 → row ≡ rowAt (d .rows) (windowRow c (registerAt a)) → answered d r ≡ doneOf (stepOf d (read a))) ⌝ }
+    ensures { λ r. ⌜ r ≡ readAnswer c a row ⌝ }
 {
     let k = refusals::read_refusal(c, a);
     if k != 0 {
@@ -126,7 +116,7 @@ pub fn read_answer(c: Control, a: u8, row: Contents) -> Answer
 
 // What a register write changes, in the control state c, with that row.
 pub fn write_change(c: Control, a: u8, v: u8, row: Contents) -> Change
-    ensures { λ x. ⌜ ((d : Controller) → d .control ≡ c → length (d .rows) ≡ 16 → row ≡ rowAt (d .rows) (windowRow c (registerAt a)) → changed d x ≡ doneOf (stepOf d (write a v))) ⌝ }
+    ensures { λ x. ⌜ x ≡ writeChange c a v row ⌝ }
 {
     if 0x50 <= a {
         return control_change(c, a - 0x50, v);

@@ -53,7 +53,9 @@ use mir.Syntax.{tyPtr, op2, unsigned, mul, offset, int as intᴹ}
 use denote.Index.{place-is}
 use Rattle.contents.specs.Bytes.{noContents}
 use Rattle.controller.specs.Carry.{rowAt}
-use Rattle.controller.specs.Code.{rowIndex, ruled}
+use Rattle.controller.specs.Code.{rowIndex, rulingFor, rulingChange, ruled}
+use Rattle.controller.specs.CodeLaws.{frame-ruled}
+use Rattle.controller.proofs.EventLaws.{ruling-changes}
 use Rattle.in_place.proofs.Element.{elem-at}
 use Rattle.in_place.proofs.Rows.{at-rows, values, value-at, row-below, byte-fits, sixteen-rows, sixteen-values, in-rows, row-is}
 use Rattle.controller.specs.declared.Controller.{Controller}
@@ -252,10 +254,10 @@ module _ {M : Type 1} (𝓤 : URA M) (H : Heap 𝓤) (A : Atoms 𝓤) (W : Given
           move ! (5 ∷ 1 ∷ []) $ group ! 2 $ use1 W (raw ((Changer 𝓤 H A at-mem run) .pre (to-changer r (rowAt (h .rows) i)))) (asked-changer r (rowAt (h .rows) i) r-is k-is) $
           calls-at ! fm (Changer 𝓤 H A at-mem run) known-changer (to-changer r (rowAt (h .rows) i)) (and-then ! (load ! (from ! (stop !)) (look ! 9 refl)) (and-then ! (load ! (from ! (stop !)) (look ! 11 refl)) (and-then ! (load ! (from ! (stop !)) (look ! 8 refl)) (no-more !)))) (λ v.
           use1 W (later (some (λ (x : Change). ((‵ (flft κ-f q-f) ⊛ ‵ ftrue) ⊛ ‵ (S.the-row .own x (v ∷ []))) ⊛ raw (ensured 𝓤 H A changer.ended (changer.clauses 𝓤 H A at-mem run) (κ-f, tt) (args-changer r (rowAt (h .rows) i)) tt x)))) (id⊢ 𝓤 _) $ await ! tt $ pick ! (λ x.
-          split ! $ move ! (1 ∷ []) $ use1 W (some (λ (ws : Lasts changer.ended (κ-f, tt) (args-changer r (rowAt (h .rows) i))). ‵ (lasts changer.ended (κ-f, tt) (args-changer r (rowAt (h .rows) i)) ws) ⊛ raw (fact 𝓤 ((c : Controller) → length (c .rows) ≡ 16 → rowAt (h .rows) i ≡ rowAt (c .rows) (rowIndex (r .verdict)) → changed c x ≡ ruled c f r)))) (id⊢ 𝓤 _) $ pick ! (λ ws.
-          split ! $ move ! (1 ∷ []) $ heard ! ((c : Controller) → length (c .rows) ≡ 16 → rowAt (h .rows) i ≡ rowAt (c .rows) (rowIndex (r .verdict)) → changed c x ≡ ruled c f r) (λ d. drop ! $ split ! $ move ! (1 ∷ []) $ peeks ! S.the-row (Is S.the-row) (shows 𝓤 H A S.the-row) x (v ∷ []) (λ is. drop ! $ split ! $
+          split ! $ move ! (1 ∷ []) $ use1 W (some (λ (ws : Lasts changer.ended (κ-f, tt) (args-changer r (rowAt (h .rows) i))). ‵ (lasts changer.ended (κ-f, tt) (args-changer r (rowAt (h .rows) i)) ws) ⊛ raw (fact 𝓤 (x ≡ rulingChange r (rowAt (h .rows) i) f)))) (id⊢ 𝓤 _) $ pick ! (λ ws.
+          split ! $ move ! (1 ∷ []) $ heard ! (x ≡ rulingChange r (rowAt (h .rows) i) f) (λ d. drop ! $ split ! $ move ! (1 ∷ []) $ peeks ! S.the-row (Is S.the-row) (shows 𝓤 H A S.the-row) x (v ∷ []) (λ is. drop ! $ split ! $
           land ! (from ! (stop !)) (init ! 13 refl (LL.lawful S.the-type S′.the-laws 𝓤 H A W .typed x _ is .0)) $ rewrite ! 13 (λ (u : Val). ‵ (fat fullShare out-ty l7 0 u)) (ap only (LL.tells S.the-type S′.the-laws x _ is)) refl $
-          keep ! (3 ∷ 4 ∷ 5 ∷ 2 ∷ 0 ∷ 6 ∷ 7 ∷ 8 ∷ 9 ∷ 10 ∷ 11 ∷ 12 ∷ 13 ∷ 14 ∷ 15 ∷ 16 ∷ 17 ∷ 18 ∷ 19 ∷ 20 ∷ 21 ∷ 22 ∷ 23 ∷ 24 ∷ 25 ∷ 26 ∷ 27 ∷ 28 ∷ 29 ∷ 30 ∷ 31 ∷ 32 ∷ 33 ∷ []) $ carrying x (change-is x _ is) (d h sixteen (ap (rowAt (h .rows)) p) ∙ e))))))
+          keep ! (3 ∷ 4 ∷ 5 ∷ 2 ∷ 0 ∷ 6 ∷ 7 ∷ 8 ∷ 9 ∷ 10 ∷ 11 ∷ 12 ∷ 13 ∷ 14 ∷ 15 ∷ 16 ∷ 17 ∷ 18 ∷ 19 ∷ 20 ∷ 21 ∷ 22 ∷ 23 ∷ 24 ∷ 25 ∷ 26 ∷ 27 ∷ 28 ∷ 29 ∷ 30 ∷ 31 ∷ 32 ∷ 33 ∷ []) $ carrying x (change-is x _ is) (ap (changed h) d ∙ ruling-changes h sixteen f _ r (ap (rowAt (h .rows)) p) ∙ e))))))
 
       -- the row is read
       reading-ruling : {y8 : Val} (r : Ruling) → Is Ruling-row.the-row r (LL.val Ruling-row.the-type Ruling-row′.the-laws r ∷ []) → ruled h f r ≡ doneOf (stepOf h (frameStep good f)) → (i : ℕ) → i ≡ rowIndex (r .verdict) → Sq W (‵ (fobs γ (T.the-row .coded .code h)) ∷ ‵ (fbor κ (Body (mem T.the-row) b o γ)) ∷ ‵ (flft κ q) ∷ ‵ Bytes ∷ ‵ (flft κ-f q-f) ∷ ‵ (froom Answer-row′.mir l0 0) ∷ ‵ (fat fullShare (tyRef (named 0) mut rec-ty) l1 0 (vptr b o)) ∷ ‵ (fat fullShare tyBool l2 0 (vbool good)) ∷ ‵ (fat fullShare (sliceTy (tyRef (named 1) imm (tyInt w8))) l3 0 s-f) ∷ ‵ (fat fullShare Ruling-row′.mir l4 0 (LL.val Ruling-row.the-type Ruling-row′.the-laws r)) ∷ ‵ (fat fullShare (tyInt w64) l5 0 (vint w64 i)) ∷ ‵ (froom Row′.mir l6 0) ∷ ‵ (froom out-ty l7 0) ∷ ‵ (fat fullShare T′.mir l8 0 y8) ∷ ‵ (froom (tyInt w64) l9 0) ∷ ‵ (froom tyPtr l10 0) ∷ ‵ (froom tyPtr l11 0) ∷ ‵ (froom Row′.mir l12 0) ∷ ‵ (froom (tyRef erased mut rec-ty) l13 0) ∷ Dies) (runs C Λ En code-reading-ruling (atRet En Post))
@@ -297,10 +299,10 @@ module _ {M : Type 1} (𝓤 : URA M) (H : Heap 𝓤) (A : Atoms 𝓤) (W : Given
           move ! (5 ∷ 1 ∷ []) $ group ! 2 $ use1 W (raw ((Ruler 𝓤 H A at-mem run) .pre to-ruler)) (asked-ruler was) $
           calls-at ! fm (Ruler 𝓤 H A at-mem run) known-ruler to-ruler (and-then ! (load ! (from ! (stop !)) (look ! 13 refl)) (and-then ! (load ! (from ! (stop !)) (look ! 7 refl)) (and-then ! (load ! (from ! (stop !)) (look ! 8 refl)) (no-more !)))) (λ v.
           use1 W (later (some (λ (r : Ruling). ((‵ (flft κ-f q-f) ⊛ ‵ ftrue) ⊛ ‵ (Ruling-row.the-row .own r (v ∷ []))) ⊛ raw (ensured 𝓤 H A ruler.ended (ruler.clauses 𝓤 H A at-mem run) (κ-f, tt) args-ruler tt r)))) (id⊢ 𝓤 _) $ await ! tt $ pick ! (λ r.
-          split ! $ move ! (1 ∷ []) $ use1 W (some (λ (ws : Lasts ruler.ended (κ-f, tt) args-ruler). ‵ (lasts ruler.ended (κ-f, tt) args-ruler ws) ⊛ raw (fact 𝓤 (ruled h f r ≡ doneOf (stepOf h (frameStep good f)))))) (id⊢ 𝓤 _) $ pick ! (λ ws.
-          split ! $ move ! (1 ∷ []) $ heard ! (ruled h f r ≡ doneOf (stepOf h (frameStep good f))) (λ e. drop ! $ split ! $ move ! (1 ∷ []) $ peeks ! Ruling-row.the-row (Is Ruling-row.the-row) (shows 𝓤 H A Ruling-row.the-row) r (v ∷ []) (λ is. drop ! $ split ! $
+          split ! $ move ! (1 ∷ []) $ use1 W (some (λ (ws : Lasts ruler.ended (κ-f, tt) args-ruler). ‵ (lasts ruler.ended (κ-f, tt) args-ruler ws) ⊛ raw (fact 𝓤 (r ≡ rulingFor h (frameStep good f))))) (id⊢ 𝓤 _) $ pick ! (λ ws.
+          split ! $ move ! (1 ∷ []) $ heard ! (r ≡ rulingFor h (frameStep good f)) (λ e. drop ! $ split ! $ move ! (1 ∷ []) $ peeks ! Ruling-row.the-row (Is Ruling-row.the-row) (shows 𝓤 H A Ruling-row.the-row) r (v ∷ []) (λ is. drop ! $ split ! $
           land ! (from ! (stop !)) (init ! 10 refl (LL.lawful Ruling-row.the-type Ruling-row′.the-laws 𝓤 H A W .typed r _ is .0)) $ rewrite ! 10 (λ (u : Val). ‵ (fat fullShare Ruling-row′.mir l4 0 u)) (ap only (LL.tells Ruling-row.the-type Ruling-row′.the-laws r _ is)) refl $
-          keep ! (3 ∷ 4 ∷ 5 ∷ 2 ∷ 0 ∷ 6 ∷ 7 ∷ 8 ∷ 9 ∷ 10 ∷ 11 ∷ 12 ∷ 13 ∷ 14 ∷ 15 ∷ 16 ∷ 17 ∷ 18 ∷ 19 ∷ 20 ∷ 21 ∷ 22 ∷ 23 ∷ 24 ∷ 25 ∷ 26 ∷ 27 ∷ 28 ∷ 29 ∷ 30 ∷ 31 ∷ 32 ∷ 33 ∷ []) $ finding-ruling r (ruling-is r _ is) e)))))))
+          keep ! (3 ∷ 4 ∷ 5 ∷ 2 ∷ 0 ∷ 6 ∷ 7 ∷ 8 ∷ 9 ∷ 10 ∷ 11 ∷ 12 ∷ 13 ∷ 14 ∷ 15 ∷ 16 ∷ 17 ∷ 18 ∷ 19 ∷ 20 ∷ 21 ∷ 22 ∷ 23 ∷ 24 ∷ 25 ∷ 26 ∷ 27 ∷ 28 ∷ 29 ∷ 30 ∷ 31 ∷ 32 ∷ 33 ∷ []) $ finding-ruling r (ruling-is r _ is) (ap (ruled h f) e ∙ frame-ruled h good f))))))))
 
     walk : ent 𝓤 (onEntry 𝓤 H A this.signature (κ, (κ-f, tt)) (q, (q-f, tt)) a at) (WpFn 𝓤 H C Λ code.function (vptr b o ∷ vbool good ∷ s-f ∷ []) Post)
     walk =

@@ -59,7 +59,10 @@ use mir.Syntax.{tyPtr, op2, unsigned, mul, offset, int as intᴹ}
 use denote.Index.{place-is}
 use Rattle.contents.specs.Bytes.{noContents}
 use Rattle.controller.specs.Carry.{rowAt}
-use Rattle.controller.specs.Code.{rowIndex, windowRow, ruled, roomSent}
+use Rattle.controller.specs.Code.{rowIndex, windowRow, slotRuling, eventChange, rulingChange, ruled, roomSent, readAnswer}
+use Rattle.controller.specs.CodeLaws.{sync-changes, sync-due-changes, fault-changes, timeout-changes, slot-ruled}
+use Rattle.controller.specs.AccessLaws.{read-answers}
+use Rattle.controller.proofs.EventLaws.{ruling-changes, slot-sends}
 use Rattle.in_place.proofs.Element.{elem-at}
 use Rattle.in_place.proofs.Rows.{at-rows, values, value-at, row-below, window-below, byte-fits, sixteen-rows, sixteen-values, in-rows, row-is, control-is}
 use Rattle.rules.specs.Registers.{registerAt}
@@ -528,13 +531,13 @@ module _ {M : Type 1} (𝓤 : URA M) (H : Heap 𝓤) (A : Atoms 𝓤) (W : Given
             use0 W (raw ((Reads 𝓤 H A at-mem run) .pre (to-read n (rowAt (h .rows) i)))) (asked-read n (rowAt (h .rows) i) n-fits d-is k-is) $
             calls-at-last ! fm (Reads 𝓤 H A at-mem run) known-reads (to-read n (rowAt (h .rows) i)) (and-then ! (load ! (from ! (stop !)) (look ! 14 refl)) (and-then ! (load ! (from ! (stop !)) (look ! 13 refl)) (and-then ! (load ! (from ! (stop !)) (look ! 16 refl)) (no-more !)))) (λ v.
             use1 W (later (some (λ (m : Answer). (‵ ftrue ⊛ ‵ (Answer-row.the-row .own m (v ∷ []))) ⊛ raw (ensured 𝓤 H A reads.ended (reads.clauses 𝓤 H A at-mem run) tt (args-read n (rowAt (h .rows) i)) tt m)))) (id⊢ 𝓤 _) $ await ! tt $ pick ! (λ m.
-            split ! $ move ! (1 ∷ []) $ use1 W (some (λ (ws : Lasts reads.ended tt (args-read n (rowAt (h .rows) i))). ‵ (lasts reads.ended tt (args-read n (rowAt (h .rows) i)) ws) ⊛ raw (fact 𝓤 ((c : Controller) → c .control ≡ h .control → length (c .rows) ≡ 16 → rowAt (h .rows) i ≡ rowAt (c .rows) (windowRow (h .control) (registerAt n)) → record { next = c; answer = m } ≡ doneOf (stepOf c (read n)))))) (id⊢ 𝓤 _) $ pick ! (λ ws.
-            split ! $ move ! (1 ∷ []) $ heard ! ((c : Controller) → c .control ≡ h .control → length (c .rows) ≡ 16 → rowAt (h .rows) i ≡ rowAt (c .rows) (windowRow (h .control) (registerAt n)) → record { next = c; answer = m } ≡ doneOf (stepOf c (read n))) (λ g. drop ! $ split ! $ drop ! $
+            split ! $ move ! (1 ∷ []) $ use1 W (some (λ (ws : Lasts reads.ended tt (args-read n (rowAt (h .rows) i))). ‵ (lasts reads.ended tt (args-read n (rowAt (h .rows) i)) ws) ⊛ raw (fact 𝓤 (m ≡ readAnswer (h .control) n (rowAt (h .rows) i))))) (id⊢ 𝓤 _) $ pick ! (λ ws.
+            split ! $ move ! (1 ∷ []) $ heard ! (m ≡ readAnswer (h .control) n (rowAt (h .rows) i)) (λ g. drop ! $ split ! $ drop ! $
             peeks ! Answer-row.the-row (Is Answer-row.the-row) (shows 𝓤 H A Answer-row.the-row) m (v ∷ []) (λ is. drop ! $
             land-last ! (from ! (stop !)) (init ! 30 refl (EL.lawful Answer-row.the-type Answer-row′.the-laws 𝓤 H A W tt .typed m _ is .0)) $ rewrite ! 30 (λ (u : Val). ‵ (fat fullShare Answer-row′.mir l23 0 u)) (ap only (EL.tells Answer-row.the-type Answer-row′.the-laws m _ is)) refl $
             use1 W (‵ (fres γ (T.the-row .coded .code h))) (W .names .obs-res γ (T.the-row .coded .code h)) $
             exec ! C Λ En pieces.t-2 (atRet En (Post call)) $ forget ! 12 refl $ forget ! 13 refl $ forget ! 14 refl $ forget ! 15 refl $ forget ! 32 refl $ forget ! 33 refl $ forget ! 34 refl $ forget ! 35 refl $
-            keep ! (0 ∷ 2 ∷ 3 ∷ 4 ∷ 5 ∷ 6 ∷ 7 ∷ 8 ∷ 9 ∷ 10 ∷ 11 ∷ 12 ∷ 13 ∷ 14 ∷ 15 ∷ 16 ∷ 17 ∷ 18 ∷ 19 ∷ 20 ∷ 21 ∷ 22 ∷ 23 ∷ 24 ∷ 25 ∷ 26 ∷ 27 ∷ 28 ∷ 29 ∷ 30 ∷ 31 ∷ 32 ∷ 33 ∷ 34 ∷ 35 ∷ 36 ∷ 37 ∷ 38 ∷ 39 ∷ 40 ∷ 41 ∷ 42 ∷ 43 ∷ 44 ∷ 45 ∷ 46 ∷ 47 ∷ 48 ∷ 49 ∷ 50 ∷ 51 ∷ 52 ∷ 53 ∷ 54 ∷ 55 ∷ 56 ∷ 57 ∷ 58 ∷ 59 ∷ 60 ∷ 61 ∷ 62 ∷ 63 ∷ 64 ∷ 65 ∷ 66 ∷ 67 ∷ 68 ∷ 69 ∷ 70 ∷ 71 ∷ 72 ∷ 73 ∷ 74 ∷ 75 ∷ 76 ∷ 77 ∷ 78 ∷ 79 ∷ 80 ∷ 81 ∷ 82 ∷ 83 ∷ 84 ∷ 85 ∷ 86 ∷ 87 ∷ 88 ∷ 89 ∷ 90 ∷ 91 ∷ 92 ∷ 93 ∷ 94 ∷ 95 ∷ 96 ∷ 97 ∷ 98 ∷ 99 ∷ 100 ∷ []) $ answered h m room (ap (λ (u : Done). u .next) (g h refl sixteen (ap (rowAt (h .rows)) p)) ∙ ap next s, ap (λ (u : Done). u .answer) (g h refl sixteen (ap (rowAt (h .rows)) p)) ∙ ap answer s, z) (answer-is m _ is) refl)))))
+            keep ! (0 ∷ 2 ∷ 3 ∷ 4 ∷ 5 ∷ 6 ∷ 7 ∷ 8 ∷ 9 ∷ 10 ∷ 11 ∷ 12 ∷ 13 ∷ 14 ∷ 15 ∷ 16 ∷ 17 ∷ 18 ∷ 19 ∷ 20 ∷ 21 ∷ 22 ∷ 23 ∷ 24 ∷ 25 ∷ 26 ∷ 27 ∷ 28 ∷ 29 ∷ 30 ∷ 31 ∷ 32 ∷ 33 ∷ 34 ∷ 35 ∷ 36 ∷ 37 ∷ 38 ∷ 39 ∷ 40 ∷ 41 ∷ 42 ∷ 43 ∷ 44 ∷ 45 ∷ 46 ∷ 47 ∷ 48 ∷ 49 ∷ 50 ∷ 51 ∷ 52 ∷ 53 ∷ 54 ∷ 55 ∷ 56 ∷ 57 ∷ 58 ∷ 59 ∷ 60 ∷ 61 ∷ 62 ∷ 63 ∷ 64 ∷ 65 ∷ 66 ∷ 67 ∷ 68 ∷ 69 ∷ 70 ∷ 71 ∷ 72 ∷ 73 ∷ 74 ∷ 75 ∷ 76 ∷ 77 ∷ 78 ∷ 79 ∷ 80 ∷ 81 ∷ 82 ∷ 83 ∷ 84 ∷ 85 ∷ 86 ∷ 87 ∷ 88 ∷ 89 ∷ 90 ∷ 91 ∷ 92 ∷ 93 ∷ 94 ∷ 95 ∷ 96 ∷ 97 ∷ 98 ∷ 99 ∷ 100 ∷ []) $ answered h m room (ap (λ (u : Done). u .next) (read-answers h sixteen n _ (ap (rowAt (h .rows)) p)) ∙ ap next s, g ∙ ap (λ (u : Done). u .answer) (read-answers h sixteen n _ (ap (rowAt (h .rows)) p)) ∙ ap answer s, z) (answer-is m _ is) refl)))))
 
         -- the row is read
         reading-read : {y2 : Val} (n : ℕ) → n < 2 ^ 8 → Is Control-row.the-row (h .control) (LL.val Control-row.the-type Control-row′.the-laws (h .control) ∷ []) → read n ≡ stepFor call f room → room ≡ roomFor h call room → (i : ℕ) → i ≡ windowRow (h .control) (registerAt n) → Sq W (‵ (fobs γ (T.the-row .coded .code h)) ∷ ‵ (fbor κ (Body (mem T.the-row) b o γ)) ∷ ‵ (flft κ q) ∷ ‵ Bytes ∷ ‵ (flft κ-f q-f) ∷ ‵ (flft κ-room q-room) ∷ ‵ (finally u8 γ-room room) ∷ ‵ (froom Answer-row′.mir l0 0) ∷ ‵ (fat fullShare (tyRef (named 0) mut rec-ty) l1 0 (vptr b o)) ∷ ‵ (fat fullShare Call-row′.mir l2 0 y2) ∷ ‵ (fat fullShare (sliceTy (tyRef (named 1) imm (tyInt w8))) l3 0 s-f) ∷ ‵ (fat fullShare (sliceTy (tyRef (named 2) mut (tyInt w8))) l4 0 s-room) ∷ ‵ (fat fullShare (tyInt w8) l5 0 (vint w8 n)) ∷ ‵ (fat fullShare Control-row′.mir l6 0 (LL.val Control-row.the-type Control-row′.the-laws (h .control))) ∷ ‵ (fat fullShare (tyInt w64) l7 0 (vint w64 i)) ∷ ‵ (froom Row′.mir l8 0) ∷ ‵ (froom (tyInt w8) l9 0) ∷ ‵ (froom (tyInt w8) l10 0) ∷ ‵ (froom Sync-row′.mir l11 0) ∷ ‵ (froom out-ty l12 0) ∷ ‵ (froom out-ty l13 0) ∷ ‵ (froom (tyInt w8) l14 0) ∷ ‵ (froom Ruling-row′.mir l15 0) ∷ ‵ (froom (tyInt w64) l16 0) ∷ ‵ (froom Row′.mir l17 0) ∷ ‵ (froom out-ty l18 0) ∷ ‵ (froom tyBool l19 0) ∷ ‵ (froom Fault-row′.mir l20 0) ∷ ‵ (froom out-ty l21 0) ∷ ‵ (froom out-ty l22 0) ∷ ‵ (froom Answer-row′.mir l23 0) ∷ ‵ (froom T′.mir l24 0) ∷ ‵ (froom (tyInt w64) l25 0) ∷ ‵ (froom tyPtr l26 0) ∷ ‵ (froom tyPtr l27 0) ∷ ‵ (froom Row′.mir l28 0) ∷ ‵ (froom (tyRef erased mut rec-ty) l29 0) ∷ ‵ (froom T′.mir l30 0) ∷ ‵ (froom (tyRef erased mut rec-ty) l31 0) ∷ ‵ (froom T′.mir l32 0) ∷ ‵ (froom (tyRef erased mut rec-ty) l33 0) ∷ ‵ (froom T′.mir l34 0) ∷ ‵ (froom (tyInt w64) l35 0) ∷ ‵ (froom tyPtr l36 0) ∷ ‵ (froom tyPtr l37 0) ∷ ‵ (froom Row′.mir l38 0) ∷ ‵ (froom (tyRef erased mut (tyInt w8)) l39 0) ∷ ‵ (froom (sliceTy (tyRef erased mut (tyInt w8))) l40 0) ∷ ‵ (froom (tyRef erased mut rec-ty) l41 0) ∷ ‵ (froom (tyRef erased mut rec-ty) l42 0) ∷ ‵ (froom T′.mir l43 0) ∷ ‵ (froom (tyRef erased mut rec-ty) l44 0) ∷ ‵ (froom T′.mir l45 0) ∷ ‵ (froom (tyRef erased mut rec-ty) l46 0) ∷ Dies) (runs C Λ En code-reading-read (anyQ (Next call)))
@@ -621,11 +624,11 @@ module _ {M : Type 1} (𝓤 : URA M) (H : Heap 𝓤) (A : Atoms 𝓤) (W : Given
             use0 W (raw ((Syncs 𝓤 H A at-mem run) .pre (to-sync k))) (asked-sync k k-is was) $
             calls-at ! fm (Syncs 𝓤 H A at-mem run) known-syncs (to-sync k) (and-then ! (load ! (from ! (stop !)) (look ! 40 refl)) (and-then ! (load ! (from ! (stop !)) (look ! 21 refl)) (no-more !))) (λ v.
             use1 W (later (some (λ (x : Change). (‵ ftrue ⊛ ‵ (S.the-row .own x (v ∷ []))) ⊛ raw (ensured 𝓤 H A syncs.ended (syncs.clauses 𝓤 H A at-mem run) tt (args-sync k) tt x)))) (id⊢ 𝓤 _) $ await ! tt $ pick ! (λ x.
-            split ! $ move ! (1 ∷ []) $ use1 W (some (λ (ws : Lasts syncs.ended tt (args-sync k)). ‵ (lasts syncs.ended tt (args-sync k) ws) ⊛ raw (fact 𝓤 (changed h x ≡ doneOf (stepOf h (sync k)))))) (id⊢ 𝓤 _) $ pick ! (λ ws.
-            split ! $ move ! (1 ∷ []) $ heard ! (changed h x ≡ doneOf (stepOf h (sync k))) (λ e. drop ! $ split ! $ drop ! $
+            split ! $ move ! (1 ∷ []) $ use1 W (some (λ (ws : Lasts syncs.ended tt (args-sync k)). ‵ (lasts syncs.ended tt (args-sync k) ws) ⊛ raw (fact 𝓤 (x ≡ eventChange h (sync k))))) (id⊢ 𝓤 _) $ pick ! (λ ws.
+            split ! $ move ! (1 ∷ []) $ heard ! (x ≡ eventChange h (sync k)) (λ e. drop ! $ split ! $ drop ! $
             peeks ! S.the-row (Is S.the-row) (shows 𝓤 H A S.the-row) x (v ∷ []) (λ is. drop ! $
             land ! (from ! (stop !)) (init ! 21 refl (LL.lawful S.the-type S′.the-laws 𝓤 H A W .typed x _ is .0)) $ rewrite ! 21 (λ (u : Val). ‵ (fat fullShare out-ty l12 0 u)) (ap only (LL.tells S.the-type S′.the-laws x _ is)) refl $
-            keep ! (3 ∷ 4 ∷ 5 ∷ 6 ∷ 7 ∷ 8 ∷ 0 ∷ 9 ∷ 10 ∷ 11 ∷ 12 ∷ 13 ∷ 14 ∷ 15 ∷ 16 ∷ 17 ∷ 18 ∷ 19 ∷ 20 ∷ 21 ∷ 22 ∷ 23 ∷ 24 ∷ 25 ∷ 26 ∷ 27 ∷ 28 ∷ 29 ∷ 30 ∷ 31 ∷ 32 ∷ 33 ∷ 34 ∷ 35 ∷ 36 ∷ 37 ∷ 38 ∷ 39 ∷ 40 ∷ 41 ∷ 42 ∷ 43 ∷ 44 ∷ 45 ∷ 46 ∷ 47 ∷ 48 ∷ 49 ∷ 50 ∷ 51 ∷ 52 ∷ 53 ∷ 54 ∷ 55 ∷ 56 ∷ 57 ∷ 58 ∷ 59 ∷ 60 ∷ 61 ∷ 62 ∷ 63 ∷ 64 ∷ 65 ∷ 66 ∷ 67 ∷ 68 ∷ 69 ∷ 70 ∷ 71 ∷ 72 ∷ 73 ∷ 74 ∷ 75 ∷ 76 ∷ 77 ∷ 78 ∷ 79 ∷ 80 ∷ 81 ∷ 82 ∷ 83 ∷ 84 ∷ 85 ∷ 86 ∷ 87 ∷ 88 ∷ 89 ∷ 90 ∷ 91 ∷ 92 ∷ 93 ∷ 94 ∷ 95 ∷ 96 ∷ 97 ∷ 98 ∷ 99 ∷ 100 ∷ 101 ∷ 102 ∷ []) $ carried-sync x (change-is x _ is) (e ∙ ap (λ (s : Step). doneOf (stepOf h s)) s) room z refl)))))))
+            keep ! (3 ∷ 4 ∷ 5 ∷ 6 ∷ 7 ∷ 8 ∷ 0 ∷ 9 ∷ 10 ∷ 11 ∷ 12 ∷ 13 ∷ 14 ∷ 15 ∷ 16 ∷ 17 ∷ 18 ∷ 19 ∷ 20 ∷ 21 ∷ 22 ∷ 23 ∷ 24 ∷ 25 ∷ 26 ∷ 27 ∷ 28 ∷ 29 ∷ 30 ∷ 31 ∷ 32 ∷ 33 ∷ 34 ∷ 35 ∷ 36 ∷ 37 ∷ 38 ∷ 39 ∷ 40 ∷ 41 ∷ 42 ∷ 43 ∷ 44 ∷ 45 ∷ 46 ∷ 47 ∷ 48 ∷ 49 ∷ 50 ∷ 51 ∷ 52 ∷ 53 ∷ 54 ∷ 55 ∷ 56 ∷ 57 ∷ 58 ∷ 59 ∷ 60 ∷ 61 ∷ 62 ∷ 63 ∷ 64 ∷ 65 ∷ 66 ∷ 67 ∷ 68 ∷ 69 ∷ 70 ∷ 71 ∷ 72 ∷ 73 ∷ 74 ∷ 75 ∷ 76 ∷ 77 ∷ 78 ∷ 79 ∷ 80 ∷ 81 ∷ 82 ∷ 83 ∷ 84 ∷ 85 ∷ 86 ∷ 87 ∷ 88 ∷ 89 ∷ 90 ∷ 91 ∷ 92 ∷ 93 ∷ 94 ∷ 95 ∷ 96 ∷ 97 ∷ 98 ∷ 99 ∷ 100 ∷ 101 ∷ 102 ∷ []) $ carried-sync x (change-is x _ is) (ap (changed h) e ∙ sync-changes h k ∙ ap (λ (s : Step). doneOf (stepOf h s)) s) room z refl)))))))
 
         -- what `SyncDue` changes is carried out
         carried-syncdue : {y2 y32 : Val} (x : Change) → Is S.the-row x (LL.val S.the-type S′.the-laws x ∷ []) → changed h x ≡ doneOf (stepOf h (stepFor call f room)) → (zs : List ℕ) → zs ≡ roomFor h call room → length zs ≡ length room → Sq W (‵ (fobs γ (T.the-row .coded .code h)) ∷ ‵ (fbor κ (Body (mem T.the-row) b o γ)) ∷ ‵ (flft κ q) ∷ ‵ Bytes ∷ ‵ (flft κ-f q-f) ∷ ‵ (flft κ-room q-room) ∷ ‵ (finally u8 γ-room zs) ∷ ‵ (froom Answer-row′.mir l0 0) ∷ ‵ (fat fullShare (tyRef (named 0) mut rec-ty) l1 0 (vptr b o)) ∷ ‵ (fat fullShare Call-row′.mir l2 0 y2) ∷ ‵ (fat fullShare (sliceTy (tyRef (named 1) imm (tyInt w8))) l3 0 s-f) ∷ ‵ (fat fullShare (sliceTy (tyRef (named 2) mut (tyInt w8))) l4 0 s-room) ∷ ‵ (froom (tyInt w8) l5 0) ∷ ‵ (froom Control-row′.mir l6 0) ∷ ‵ (froom (tyInt w64) l7 0) ∷ ‵ (froom Row′.mir l8 0) ∷ ‵ (froom (tyInt w8) l9 0) ∷ ‵ (froom (tyInt w8) l10 0) ∷ ‵ (froom Sync-row′.mir l11 0) ∷ ‵ (froom out-ty l12 0) ∷ ‵ (fat fullShare out-ty l13 0 (LL.val S.the-type S′.the-laws x)) ∷ ‵ (froom (tyInt w8) l14 0) ∷ ‵ (froom Ruling-row′.mir l15 0) ∷ ‵ (froom (tyInt w64) l16 0) ∷ ‵ (froom Row′.mir l17 0) ∷ ‵ (froom out-ty l18 0) ∷ ‵ (froom tyBool l19 0) ∷ ‵ (froom Fault-row′.mir l20 0) ∷ ‵ (froom out-ty l21 0) ∷ ‵ (froom out-ty l22 0) ∷ ‵ (froom Answer-row′.mir l23 0) ∷ ‵ (froom T′.mir l24 0) ∷ ‵ (froom (tyInt w64) l25 0) ∷ ‵ (froom tyPtr l26 0) ∷ ‵ (froom tyPtr l27 0) ∷ ‵ (froom Row′.mir l28 0) ∷ ‵ (froom (tyRef erased mut rec-ty) l29 0) ∷ ‵ (froom T′.mir l30 0) ∷ ‵ (froom (tyRef erased mut rec-ty) l31 0) ∷ ‵ (fat fullShare T′.mir l32 0 y32) ∷ ‵ (froom (tyRef erased mut rec-ty) l33 0) ∷ ‵ (froom T′.mir l34 0) ∷ ‵ (froom (tyInt w64) l35 0) ∷ ‵ (froom tyPtr l36 0) ∷ ‵ (froom tyPtr l37 0) ∷ ‵ (froom Row′.mir l38 0) ∷ ‵ (froom (tyRef erased mut (tyInt w8)) l39 0) ∷ ‵ (froom (sliceTy (tyRef erased mut (tyInt w8))) l40 0) ∷ ‵ (froom (tyRef erased mut rec-ty) l41 0) ∷ ‵ (froom (tyRef erased mut rec-ty) l42 0) ∷ ‵ (froom T′.mir l43 0) ∷ ‵ (froom (tyRef erased mut rec-ty) l44 0) ∷ ‵ (froom T′.mir l45 0) ∷ ‵ (froom (tyRef erased mut rec-ty) l46 0) ∷ Dies) (runs C Λ En (carrying 33 13) (anyQ (Next call)))
@@ -654,11 +657,11 @@ module _ {M : Type 1} (𝓤 : URA M) (H : Heap 𝓤) (A : Atoms 𝓤) (W : Given
             use0 W (raw ((Syncdues 𝓤 H A at-mem run) .pre to-syncdue)) (asked-syncdue was) $
             calls-at ! fm (Syncdues 𝓤 H A at-mem run) known-syncdues to-syncdue (and-then ! (load ! (from ! (stop !)) (look ! 42 refl)) (no-more !)) (λ v.
             use1 W (later (some (λ (x : Change). (‵ ftrue ⊛ ‵ (S.the-row .own x (v ∷ []))) ⊛ raw (ensured 𝓤 H A syncdues.ended (syncdues.clauses 𝓤 H A at-mem run) tt args-syncdue tt x)))) (id⊢ 𝓤 _) $ await ! tt $ pick ! (λ x.
-            split ! $ move ! (1 ∷ []) $ use1 W (some (λ (ws : Lasts syncdues.ended tt args-syncdue). ‵ (lasts syncdues.ended tt args-syncdue ws) ⊛ raw (fact 𝓤 (changed h x ≡ doneOf (stepOf h (syncDue)))))) (id⊢ 𝓤 _) $ pick ! (λ ws.
-            split ! $ move ! (1 ∷ []) $ heard ! (changed h x ≡ doneOf (stepOf h (syncDue))) (λ e. drop ! $ split ! $ drop ! $
+            split ! $ move ! (1 ∷ []) $ use1 W (some (λ (ws : Lasts syncdues.ended tt args-syncdue). ‵ (lasts syncdues.ended tt args-syncdue ws) ⊛ raw (fact 𝓤 (x ≡ eventChange h syncDue)))) (id⊢ 𝓤 _) $ pick ! (λ ws.
+            split ! $ move ! (1 ∷ []) $ heard ! (x ≡ eventChange h syncDue) (λ e. drop ! $ split ! $ drop ! $
             peeks ! S.the-row (Is S.the-row) (shows 𝓤 H A S.the-row) x (v ∷ []) (λ is. drop ! $
             land ! (from ! (stop !)) (init ! 22 refl (LL.lawful S.the-type S′.the-laws 𝓤 H A W .typed x _ is .0)) $ rewrite ! 22 (λ (u : Val). ‵ (fat fullShare out-ty l13 0 u)) (ap only (LL.tells S.the-type S′.the-laws x _ is)) refl $
-            keep ! (3 ∷ 4 ∷ 5 ∷ 6 ∷ 7 ∷ 8 ∷ 0 ∷ 9 ∷ 10 ∷ 11 ∷ 12 ∷ 13 ∷ 14 ∷ 15 ∷ 16 ∷ 17 ∷ 18 ∷ 19 ∷ 20 ∷ 21 ∷ 22 ∷ 23 ∷ 24 ∷ 25 ∷ 26 ∷ 27 ∷ 28 ∷ 29 ∷ 30 ∷ 31 ∷ 32 ∷ 33 ∷ 34 ∷ 35 ∷ 36 ∷ 37 ∷ 38 ∷ 39 ∷ 40 ∷ 41 ∷ 42 ∷ 43 ∷ 44 ∷ 45 ∷ 46 ∷ 47 ∷ 48 ∷ 49 ∷ 50 ∷ 51 ∷ 52 ∷ 53 ∷ 54 ∷ 55 ∷ 56 ∷ 57 ∷ 58 ∷ 59 ∷ 60 ∷ 61 ∷ 62 ∷ 63 ∷ 64 ∷ 65 ∷ 66 ∷ 67 ∷ 68 ∷ 69 ∷ 70 ∷ 71 ∷ 72 ∷ 73 ∷ 74 ∷ 75 ∷ 76 ∷ 77 ∷ 78 ∷ 79 ∷ 80 ∷ 81 ∷ 82 ∷ 83 ∷ 84 ∷ 85 ∷ 86 ∷ 87 ∷ 88 ∷ 89 ∷ 90 ∷ 91 ∷ 92 ∷ 93 ∷ 94 ∷ 95 ∷ 96 ∷ 97 ∷ 98 ∷ 99 ∷ 100 ∷ 101 ∷ 102 ∷ []) $ carried-syncdue x (change-is x _ is) (e ∙ ap (λ (s : Step). doneOf (stepOf h s)) s) room z refl)))))))
+            keep ! (3 ∷ 4 ∷ 5 ∷ 6 ∷ 7 ∷ 8 ∷ 0 ∷ 9 ∷ 10 ∷ 11 ∷ 12 ∷ 13 ∷ 14 ∷ 15 ∷ 16 ∷ 17 ∷ 18 ∷ 19 ∷ 20 ∷ 21 ∷ 22 ∷ 23 ∷ 24 ∷ 25 ∷ 26 ∷ 27 ∷ 28 ∷ 29 ∷ 30 ∷ 31 ∷ 32 ∷ 33 ∷ 34 ∷ 35 ∷ 36 ∷ 37 ∷ 38 ∷ 39 ∷ 40 ∷ 41 ∷ 42 ∷ 43 ∷ 44 ∷ 45 ∷ 46 ∷ 47 ∷ 48 ∷ 49 ∷ 50 ∷ 51 ∷ 52 ∷ 53 ∷ 54 ∷ 55 ∷ 56 ∷ 57 ∷ 58 ∷ 59 ∷ 60 ∷ 61 ∷ 62 ∷ 63 ∷ 64 ∷ 65 ∷ 66 ∷ 67 ∷ 68 ∷ 69 ∷ 70 ∷ 71 ∷ 72 ∷ 73 ∷ 74 ∷ 75 ∷ 76 ∷ 77 ∷ 78 ∷ 79 ∷ 80 ∷ 81 ∷ 82 ∷ 83 ∷ 84 ∷ 85 ∷ 86 ∷ 87 ∷ 88 ∷ 89 ∷ 90 ∷ 91 ∷ 92 ∷ 93 ∷ 94 ∷ 95 ∷ 96 ∷ 97 ∷ 98 ∷ 99 ∷ 100 ∷ 101 ∷ 102 ∷ []) $ carried-syncdue x (change-is x _ is) (ap (changed h) e ∙ sync-due-changes h ∙ ap (λ (s : Step). doneOf (stepOf h s)) s) room z refl)))))))
 
         -- what `Slot` changes is carried out
         carried-slot : {y2 y14 y34 y39 y40 y15 y16 y17 y35 y36 y37 y38 : Val} (x : Change) → Is S.the-row x (LL.val S.the-type S′.the-laws x ∷ []) → changed h x ≡ doneOf (stepOf h (stepFor call f room)) → (zs : List ℕ) → zs ≡ roomFor h call room → length zs ≡ length room → Sq W (‵ (fobs γ (T.the-row .coded .code h)) ∷ ‵ (fbor κ (Body (mem T.the-row) b o γ)) ∷ ‵ (flft κ q) ∷ ‵ Bytes ∷ ‵ (flft κ-f q-f) ∷ ‵ (flft κ-room q-room) ∷ ‵ (finally u8 γ-room zs) ∷ ‵ (froom Answer-row′.mir l0 0) ∷ ‵ (fat fullShare (tyRef (named 0) mut rec-ty) l1 0 (vptr b o)) ∷ ‵ (fat fullShare Call-row′.mir l2 0 y2) ∷ ‵ (fat fullShare (sliceTy (tyRef (named 1) imm (tyInt w8))) l3 0 s-f) ∷ ‵ (fat fullShare (sliceTy (tyRef (named 2) mut (tyInt w8))) l4 0 s-room) ∷ ‵ (froom (tyInt w8) l5 0) ∷ ‵ (froom Control-row′.mir l6 0) ∷ ‵ (froom (tyInt w64) l7 0) ∷ ‵ (froom Row′.mir l8 0) ∷ ‵ (froom (tyInt w8) l9 0) ∷ ‵ (froom (tyInt w8) l10 0) ∷ ‵ (froom Sync-row′.mir l11 0) ∷ ‵ (froom out-ty l12 0) ∷ ‵ (froom out-ty l13 0) ∷ ‵ (fat fullShare (tyInt w8) l14 0 y14) ∷ ‵ (fat fullShare Ruling-row′.mir l15 0 y15) ∷ ‵ (fat fullShare (tyInt w64) l16 0 y16) ∷ ‵ (fat fullShare Row′.mir l17 0 y17) ∷ ‵ (fat fullShare out-ty l18 0 (LL.val S.the-type S′.the-laws x)) ∷ ‵ (froom tyBool l19 0) ∷ ‵ (froom Fault-row′.mir l20 0) ∷ ‵ (froom out-ty l21 0) ∷ ‵ (froom out-ty l22 0) ∷ ‵ (froom Answer-row′.mir l23 0) ∷ ‵ (froom T′.mir l24 0) ∷ ‵ (froom (tyInt w64) l25 0) ∷ ‵ (froom tyPtr l26 0) ∷ ‵ (froom tyPtr l27 0) ∷ ‵ (froom Row′.mir l28 0) ∷ ‵ (froom (tyRef erased mut rec-ty) l29 0) ∷ ‵ (froom T′.mir l30 0) ∷ ‵ (froom (tyRef erased mut rec-ty) l31 0) ∷ ‵ (froom T′.mir l32 0) ∷ ‵ (froom (tyRef erased mut rec-ty) l33 0) ∷ ‵ (fat fullShare T′.mir l34 0 y34) ∷ ‵ (fat fullShare (tyInt w64) l35 0 y35) ∷ ‵ (fat fullShare tyPtr l36 0 y36) ∷ ‵ (fat fullShare tyPtr l37 0 y37) ∷ ‵ (fat fullShare Row′.mir l38 0 y38) ∷ ‵ (fat fullShare (tyRef erased mut (tyInt w8)) l39 0 y39) ∷ ‵ (fat fullShare (sliceTy (tyRef erased mut (tyInt w8))) l40 0 y40) ∷ ‵ (froom (tyRef erased mut rec-ty) l41 0) ∷ ‵ (froom (tyRef erased mut rec-ty) l42 0) ∷ ‵ (froom T′.mir l43 0) ∷ ‵ (froom (tyRef erased mut rec-ty) l44 0) ∷ ‵ (froom T′.mir l45 0) ∷ ‵ (froom (tyRef erased mut rec-ty) l46 0) ∷ Dies) (runs C Λ En (carrying 41 18) (anyQ (Next call)))
@@ -682,11 +685,11 @@ module _ {M : Type 1} (𝓤 : URA M) (H : Heap 𝓤) (A : Atoms 𝓤) (W : Given
             move ! (6 ∷ 5 ∷ []) $ group ! 2 $ use1 W (raw ((Filled 𝓤 H A at-mem run) .pre (to-filled r (rowAt (h .rows) i)))) (asked-filled r (rowAt (h .rows) i) r-is k-is) $
             calls-at ! fm (Filled 𝓤 H A at-mem run) known-filled (to-filled r (rowAt (h .rows) i)) (and-then ! (load ! (from ! (stop !)) (look ! 21 refl)) (and-then ! (load ! (from ! (stop !)) (look ! 23 refl)) (and-then ! (load ! (from ! (stop !)) (look ! 46 refl)) (no-more !)))) (λ v.
             use1 W (later (some (λ (x : Change). ((‵ (flft κ-room q-room) ⊛ ‵ ftrue) ⊛ ‵ (S.the-row .own x (v ∷ []))) ⊛ raw (ensured 𝓤 H A filled.ended (filled.clauses 𝓤 H A at-mem run) (κ-room, tt) (args-filled r (rowAt (h .rows) i)) tt x)))) (id⊢ 𝓤 _) $ await ! tt $ pick ! (λ x.
-            split ! $ move ! (1 ∷ []) $ use1 W (some (λ (ws : Lasts filled.ended (κ-room, tt) (args-filled r (rowAt (h .rows) i))). ‵ (lasts filled.ended (κ-room, tt) (args-filled r (rowAt (h .rows) i)) ws) ⊛ raw (fact 𝓤 ((c : Controller) → length (c .rows) ≡ 16 → rowAt (h .rows) i ≡ rowAt (c .rows) (rowIndex (r .verdict)) → changed c x ≡ ruled c [] r)) ⊛ raw (fact 𝓤 ((c : Controller) → rowAt (h .rows) i ≡ rowAt (c .rows) (rowIndex (r .verdict)) → (ws .1 .1 .0) ≡ roomSent (c .rows) room (r .verdict))))) (id⊢ 𝓤 _) $ pick ! (λ ws.
-            split ! $ move ! (1 ∷ []) $ split ! $ heard ! ((c : Controller) → length (c .rows) ≡ 16 → rowAt (h .rows) i ≡ rowAt (c .rows) (rowIndex (r .verdict)) → changed c x ≡ ruled c [] r) (λ d. heard ! ((c : Controller) → rowAt (h .rows) i ≡ rowAt (c .rows) (rowIndex (r .verdict)) → (ws .1 .1 .0) ≡ roomSent (c .rows) room (r .verdict)) (λ z₁. fsplit ! $ drop ! $ fsplit ! $ drop ! $ fsplit ! $ fsplit ! $ move ! (1 ∷ []) $ feqL ! (λ l.
+            split ! $ move ! (1 ∷ []) $ use1 W (some (λ (ws : Lasts filled.ended (κ-room, tt) (args-filled r (rowAt (h .rows) i))). ‵ (lasts filled.ended (κ-room, tt) (args-filled r (rowAt (h .rows) i)) ws) ⊛ raw (fact 𝓤 (x ≡ rulingChange r (rowAt (h .rows) i) [])) ⊛ raw (fact 𝓤 ((c : Controller) → rowAt (h .rows) i ≡ rowAt (c .rows) (rowIndex (r .verdict)) → (ws .1 .1 .0) ≡ roomSent (c .rows) room (r .verdict))))) (id⊢ 𝓤 _) $ pick ! (λ ws.
+            split ! $ move ! (1 ∷ []) $ split ! $ heard ! (x ≡ rulingChange r (rowAt (h .rows) i) []) (λ d. heard ! ((c : Controller) → rowAt (h .rows) i ≡ rowAt (c .rows) (rowIndex (r .verdict)) → (ws .1 .1 .0) ≡ roomSent (c .rows) room (r .verdict)) (λ z₁. fsplit ! $ drop ! $ fsplit ! $ drop ! $ fsplit ! $ fsplit ! $ move ! (1 ∷ []) $ feqL ! (λ l.
             move ! (2 ∷ []) $ split ! $ move ! (1 ∷ []) $ peeks ! S.the-row (Is S.the-row) (shows 𝓤 H A S.the-row) x (v ∷ []) (λ is. drop ! $ split ! $
             land ! (from ! (stop !)) (init ! 27 refl (LL.lawful S.the-type S′.the-laws 𝓤 H A W .typed x _ is .0)) $ rewrite ! 27 (λ (u : Val). ‵ (fat fullShare out-ty l18 0 u)) (ap only (LL.tells S.the-type S′.the-laws x _ is)) refl $
-            keep ! (4 ∷ 5 ∷ 6 ∷ 7 ∷ 8 ∷ 0 ∷ 2 ∷ 9 ∷ 10 ∷ 11 ∷ 12 ∷ 13 ∷ 14 ∷ 15 ∷ 16 ∷ 17 ∷ 18 ∷ 19 ∷ 20 ∷ 21 ∷ 22 ∷ 23 ∷ 24 ∷ 25 ∷ 26 ∷ 27 ∷ 28 ∷ 29 ∷ 30 ∷ 31 ∷ 32 ∷ 33 ∷ 34 ∷ 35 ∷ 36 ∷ 37 ∷ 38 ∷ 39 ∷ 40 ∷ 41 ∷ 42 ∷ 43 ∷ 44 ∷ 45 ∷ 46 ∷ 47 ∷ 48 ∷ 49 ∷ 50 ∷ 51 ∷ 52 ∷ 53 ∷ 54 ∷ 55 ∷ 56 ∷ 57 ∷ 58 ∷ 59 ∷ 60 ∷ 61 ∷ 62 ∷ 63 ∷ 64 ∷ 65 ∷ 66 ∷ 67 ∷ 68 ∷ 69 ∷ 70 ∷ 71 ∷ 72 ∷ 73 ∷ 74 ∷ 75 ∷ 76 ∷ 77 ∷ 78 ∷ 79 ∷ 80 ∷ 81 ∷ 82 ∷ 83 ∷ 84 ∷ 85 ∷ 86 ∷ 87 ∷ 88 ∷ 89 ∷ 90 ∷ 91 ∷ 92 ∷ 93 ∷ 94 ∷ 95 ∷ 96 ∷ 97 ∷ 98 ∷ 99 ∷ 100 ∷ 101 ∷ 102 ∷ []) $ carried-slot x (change-is x _ is) (d h sixteen (ap (rowAt (h .rows)) p) ∙ e) (ws .1 .1 .0) (z₁ h (ap (rowAt (h .rows)) p) ∙ z) l)))))))
+            keep ! (4 ∷ 5 ∷ 6 ∷ 7 ∷ 8 ∷ 0 ∷ 2 ∷ 9 ∷ 10 ∷ 11 ∷ 12 ∷ 13 ∷ 14 ∷ 15 ∷ 16 ∷ 17 ∷ 18 ∷ 19 ∷ 20 ∷ 21 ∷ 22 ∷ 23 ∷ 24 ∷ 25 ∷ 26 ∷ 27 ∷ 28 ∷ 29 ∷ 30 ∷ 31 ∷ 32 ∷ 33 ∷ 34 ∷ 35 ∷ 36 ∷ 37 ∷ 38 ∷ 39 ∷ 40 ∷ 41 ∷ 42 ∷ 43 ∷ 44 ∷ 45 ∷ 46 ∷ 47 ∷ 48 ∷ 49 ∷ 50 ∷ 51 ∷ 52 ∷ 53 ∷ 54 ∷ 55 ∷ 56 ∷ 57 ∷ 58 ∷ 59 ∷ 60 ∷ 61 ∷ 62 ∷ 63 ∷ 64 ∷ 65 ∷ 66 ∷ 67 ∷ 68 ∷ 69 ∷ 70 ∷ 71 ∷ 72 ∷ 73 ∷ 74 ∷ 75 ∷ 76 ∷ 77 ∷ 78 ∷ 79 ∷ 80 ∷ 81 ∷ 82 ∷ 83 ∷ 84 ∷ 85 ∷ 86 ∷ 87 ∷ 88 ∷ 89 ∷ 90 ∷ 91 ∷ 92 ∷ 93 ∷ 94 ∷ 95 ∷ 96 ∷ 97 ∷ 98 ∷ 99 ∷ 100 ∷ 101 ∷ 102 ∷ []) $ carried-slot x (change-is x _ is) (ap (changed h) d ∙ ruling-changes h sixteen [] _ r (ap (rowAt (h .rows)) p) ∙ e) (ws .1 .1 .0) (z₁ h (ap (rowAt (h .rows)) p) ∙ z) l)))))))
 
         -- the row is read
         reading-slot : {y2 y14 y34 : Val} (r : Ruling) → Is Ruling-row.the-row r (LL.val Ruling-row.the-type Ruling-row′.the-laws r ∷ []) → ruled h [] r ≡ doneOf (stepOf h (stepFor call f room)) → roomSent (h .rows) room (r .verdict) ≡ roomFor h call room → (i : ℕ) → i ≡ rowIndex (r .verdict) → Sq W (‵ (fobs γ (T.the-row .coded .code h)) ∷ ‵ (fbor κ (Body (mem T.the-row) b o γ)) ∷ ‵ (flft κ q) ∷ ‵ Bytes ∷ ‵ (flft κ-f q-f) ∷ ‵ Room′ ∷ ‵ (flft κ-room q-room) ∷ ‵ (froom Answer-row′.mir l0 0) ∷ ‵ (fat fullShare (tyRef (named 0) mut rec-ty) l1 0 (vptr b o)) ∷ ‵ (fat fullShare Call-row′.mir l2 0 y2) ∷ ‵ (fat fullShare (sliceTy (tyRef (named 1) imm (tyInt w8))) l3 0 s-f) ∷ ‵ (fat fullShare (sliceTy (tyRef (named 2) mut (tyInt w8))) l4 0 s-room) ∷ ‵ (froom (tyInt w8) l5 0) ∷ ‵ (froom Control-row′.mir l6 0) ∷ ‵ (froom (tyInt w64) l7 0) ∷ ‵ (froom Row′.mir l8 0) ∷ ‵ (froom (tyInt w8) l9 0) ∷ ‵ (froom (tyInt w8) l10 0) ∷ ‵ (froom Sync-row′.mir l11 0) ∷ ‵ (froom out-ty l12 0) ∷ ‵ (froom out-ty l13 0) ∷ ‵ (fat fullShare (tyInt w8) l14 0 y14) ∷ ‵ (fat fullShare Ruling-row′.mir l15 0 (LL.val Ruling-row.the-type Ruling-row′.the-laws r)) ∷ ‵ (fat fullShare (tyInt w64) l16 0 (vint w64 i)) ∷ ‵ (froom Row′.mir l17 0) ∷ ‵ (froom out-ty l18 0) ∷ ‵ (froom tyBool l19 0) ∷ ‵ (froom Fault-row′.mir l20 0) ∷ ‵ (froom out-ty l21 0) ∷ ‵ (froom out-ty l22 0) ∷ ‵ (froom Answer-row′.mir l23 0) ∷ ‵ (froom T′.mir l24 0) ∷ ‵ (froom (tyInt w64) l25 0) ∷ ‵ (froom tyPtr l26 0) ∷ ‵ (froom tyPtr l27 0) ∷ ‵ (froom Row′.mir l28 0) ∷ ‵ (froom (tyRef erased mut rec-ty) l29 0) ∷ ‵ (froom T′.mir l30 0) ∷ ‵ (froom (tyRef erased mut rec-ty) l31 0) ∷ ‵ (froom T′.mir l32 0) ∷ ‵ (froom (tyRef erased mut rec-ty) l33 0) ∷ ‵ (fat fullShare T′.mir l34 0 y34) ∷ ‵ (froom (tyInt w64) l35 0) ∷ ‵ (froom tyPtr l36 0) ∷ ‵ (froom tyPtr l37 0) ∷ ‵ (froom Row′.mir l38 0) ∷ ‵ (froom (tyRef erased mut (tyInt w8)) l39 0) ∷ ‵ (froom (sliceTy (tyRef erased mut (tyInt w8))) l40 0) ∷ ‵ (froom (tyRef erased mut rec-ty) l41 0) ∷ ‵ (froom (tyRef erased mut rec-ty) l42 0) ∷ ‵ (froom T′.mir l43 0) ∷ ‵ (froom (tyRef erased mut rec-ty) l44 0) ∷ ‵ (froom T′.mir l45 0) ∷ ‵ (froom (tyRef erased mut rec-ty) l46 0) ∷ Dies) (runs C Λ En code-reading-slot (anyQ (Next call)))
@@ -728,11 +731,11 @@ module _ {M : Type 1} (𝓤 : URA M) (H : Heap 𝓤) (A : Atoms 𝓤) (W : Given
             use0 W (raw ((Slots 𝓤 H A at-mem run) .pre (to-slot n))) (asked-slot n n-fits was) $
             calls-at ! fm (Slots 𝓤 H A at-mem run) known-slots (to-slot n) (and-then ! (load ! (from ! (stop !)) (look ! 42 refl)) (and-then ! (load ! (from ! (stop !)) (look ! 22 refl)) (and-then ! (load ! (from ! (stop !)) (look ! 43 refl)) (no-more !)))) (λ v.
             use1 W (later (some (λ (r : Ruling). (‵ ftrue ⊛ ‵ (Ruling-row.the-row .own r (v ∷ []))) ⊛ raw (ensured 𝓤 H A slots.ended (slots.clauses 𝓤 H A at-mem run) tt (args-slot n) tt r)))) (id⊢ 𝓤 _) $ await ! tt $ pick ! (λ r.
-            split ! $ move ! (1 ∷ []) $ use1 W (some (λ (ws : Lasts slots.ended tt (args-slot n)). ‵ (lasts slots.ended tt (args-slot n) ws) ⊛ raw (fact 𝓤 ((zs : List ℕ) → length zs ≡ length room → ruled h [] r ≡ doneOf (stepOf h (slot n zs)))) ⊛ raw (fact 𝓤 ((zs : List ℕ) → length zs ≡ length room → roomSent (h .rows) zs (r .verdict) ≡ stepOf h (slot n zs) .room)))) (id⊢ 𝓤 _) $ pick ! (λ ws.
-            split ! $ move ! (1 ∷ []) $ split ! $ heard ! ((zs : List ℕ) → length zs ≡ length room → ruled h [] r ≡ doneOf (stepOf h (slot n zs))) (λ e. heard ! ((zs : List ℕ) → length zs ≡ length room → roomSent (h .rows) zs (r .verdict) ≡ stepOf h (slot n zs) .room) (λ z₁. drop ! $ split ! $ drop ! $
+            split ! $ move ! (1 ∷ []) $ use1 W (some (λ (ws : Lasts slots.ended tt (args-slot n)). ‵ (lasts slots.ended tt (args-slot n) ws) ⊛ raw (fact 𝓤 (r ≡ slotRuling h n (length room))))) (id⊢ 𝓤 _) $ pick ! (λ ws.
+            split ! $ move ! (1 ∷ []) $ heard ! (r ≡ slotRuling h n (length room)) (λ e. drop ! $ split ! $ drop ! $
             peeks ! Ruling-row.the-row (Is Ruling-row.the-row) (shows 𝓤 H A Ruling-row.the-row) r (v ∷ []) (λ is. drop ! $
             land ! (from ! (stop !)) (init ! 22 refl (LL.lawful Ruling-row.the-type Ruling-row′.the-laws 𝓤 H A W .typed r _ is .0)) $ rewrite ! 22 (λ (u : Val). ‵ (fat fullShare Ruling-row′.mir l15 0 u)) (ap only (LL.tells Ruling-row.the-type Ruling-row′.the-laws r _ is)) refl $
-            forget ! 42 refl $ finding-slot r (ruling-is r _ is) (e room refl ∙ ap (λ (s : Step). doneOf (stepOf h s)) s) (z₁ room refl ∙ z)))))))))
+            forget ! 42 refl $ finding-slot r (ruling-is r _ is) (ap (ruled h []) e ∙ slot-ruled h n room ∙ ap (λ (s : Step). doneOf (stepOf h s)) s) (ap (λ (r : Ruling). roomSent (h .rows) room (r .verdict)) e ∙ slot-sends h (sixteen-rows h was) n room ∙ z))))))))
 
         -- Frame
         on-frame : {y2 : Val} (good : Bool) → frameStep good f ≡ stepFor call f room → room ≡ roomFor h call room → Sq W (‵ Rec ∷ ‵ (flft κ q) ∷ ‵ Bytes ∷ ‵ (flft κ-f q-f) ∷ ‵ Room′ ∷ ‵ (flft κ-room q-room) ∷ ‵ (froom Answer-row′.mir l0 0) ∷ ‵ (fat fullShare (tyRef (named 0) mut rec-ty) l1 0 (vptr b o)) ∷ ‵ (fat fullShare Call-row′.mir l2 0 y2) ∷ ‵ (fat fullShare (sliceTy (tyRef (named 1) imm (tyInt w8))) l3 0 s-f) ∷ ‵ (fat fullShare (sliceTy (tyRef (named 2) mut (tyInt w8))) l4 0 s-room) ∷ ‵ (froom (tyInt w8) l5 0) ∷ ‵ (froom Control-row′.mir l6 0) ∷ ‵ (froom (tyInt w64) l7 0) ∷ ‵ (froom Row′.mir l8 0) ∷ ‵ (froom (tyInt w8) l9 0) ∷ ‵ (froom (tyInt w8) l10 0) ∷ ‵ (froom Sync-row′.mir l11 0) ∷ ‵ (froom out-ty l12 0) ∷ ‵ (froom out-ty l13 0) ∷ ‵ (froom (tyInt w8) l14 0) ∷ ‵ (froom Ruling-row′.mir l15 0) ∷ ‵ (froom (tyInt w64) l16 0) ∷ ‵ (froom Row′.mir l17 0) ∷ ‵ (froom out-ty l18 0) ∷ ‵ (fat fullShare tyBool l19 0 (vbool good)) ∷ ‵ (froom Fault-row′.mir l20 0) ∷ ‵ (froom out-ty l21 0) ∷ ‵ (froom out-ty l22 0) ∷ ‵ (froom Answer-row′.mir l23 0) ∷ ‵ (froom T′.mir l24 0) ∷ ‵ (froom (tyInt w64) l25 0) ∷ ‵ (froom tyPtr l26 0) ∷ ‵ (froom tyPtr l27 0) ∷ ‵ (froom Row′.mir l28 0) ∷ ‵ (froom (tyRef erased mut rec-ty) l29 0) ∷ ‵ (froom T′.mir l30 0) ∷ ‵ (froom (tyRef erased mut rec-ty) l31 0) ∷ ‵ (froom T′.mir l32 0) ∷ ‵ (froom (tyRef erased mut rec-ty) l33 0) ∷ ‵ (froom T′.mir l34 0) ∷ ‵ (froom (tyInt w64) l35 0) ∷ ‵ (froom tyPtr l36 0) ∷ ‵ (froom tyPtr l37 0) ∷ ‵ (froom Row′.mir l38 0) ∷ ‵ (froom (tyRef erased mut (tyInt w8)) l39 0) ∷ ‵ (froom (sliceTy (tyRef erased mut (tyInt w8))) l40 0) ∷ ‵ (froom (tyRef erased mut rec-ty) l41 0) ∷ ‵ (froom (tyRef erased mut rec-ty) l42 0) ∷ ‵ (froom T′.mir l43 0) ∷ ‵ (froom (tyRef erased mut rec-ty) l44 0) ∷ ‵ (froom T′.mir l45 0) ∷ ‵ (froom (tyRef erased mut rec-ty) l46 0) ∷ Dies) (runs C Λ En code-frame (anyQ (Next call)))
@@ -778,11 +781,11 @@ module _ {M : Type 1} (𝓤 : URA M) (H : Heap 𝓤) (A : Atoms 𝓤) (W : Given
             use0 W (raw ((Faults 𝓤 H A at-mem run) .pre (to-fault k))) (asked-fault k k-is was) $
             calls-at ! fm (Faults 𝓤 H A at-mem run) known-faults (to-fault k) (and-then ! (load ! (from ! (stop !)) (look ! 53 refl)) (and-then ! (load ! (from ! (stop !)) (look ! 30 refl)) (no-more !))) (λ v.
             use1 W (later (some (λ (x : Change). (‵ ftrue ⊛ ‵ (S.the-row .own x (v ∷ []))) ⊛ raw (ensured 𝓤 H A faults.ended (faults.clauses 𝓤 H A at-mem run) tt (args-fault k) tt x)))) (id⊢ 𝓤 _) $ await ! tt $ pick ! (λ x.
-            split ! $ move ! (1 ∷ []) $ use1 W (some (λ (ws : Lasts faults.ended tt (args-fault k)). ‵ (lasts faults.ended tt (args-fault k) ws) ⊛ raw (fact 𝓤 (changed h x ≡ doneOf (stepOf h (fault k)))))) (id⊢ 𝓤 _) $ pick ! (λ ws.
-            split ! $ move ! (1 ∷ []) $ heard ! (changed h x ≡ doneOf (stepOf h (fault k))) (λ e. drop ! $ split ! $ drop ! $
+            split ! $ move ! (1 ∷ []) $ use1 W (some (λ (ws : Lasts faults.ended tt (args-fault k)). ‵ (lasts faults.ended tt (args-fault k) ws) ⊛ raw (fact 𝓤 (x ≡ eventChange h (fault k))))) (id⊢ 𝓤 _) $ pick ! (λ ws.
+            split ! $ move ! (1 ∷ []) $ heard ! (x ≡ eventChange h (fault k)) (λ e. drop ! $ split ! $ drop ! $
             peeks ! S.the-row (Is S.the-row) (shows 𝓤 H A S.the-row) x (v ∷ []) (λ is. drop ! $
             land ! (from ! (stop !)) (init ! 30 refl (LL.lawful S.the-type S′.the-laws 𝓤 H A W .typed x _ is .0)) $ rewrite ! 30 (λ (u : Val). ‵ (fat fullShare out-ty l21 0 u)) (ap only (LL.tells S.the-type S′.the-laws x _ is)) refl $
-            keep ! (3 ∷ 4 ∷ 5 ∷ 6 ∷ 7 ∷ 8 ∷ 0 ∷ 9 ∷ 10 ∷ 11 ∷ 12 ∷ 13 ∷ 14 ∷ 15 ∷ 16 ∷ 17 ∷ 18 ∷ 19 ∷ 20 ∷ 21 ∷ 22 ∷ 23 ∷ 24 ∷ 25 ∷ 26 ∷ 27 ∷ 28 ∷ 29 ∷ 30 ∷ 31 ∷ 32 ∷ 33 ∷ 34 ∷ 35 ∷ 36 ∷ 37 ∷ 38 ∷ 39 ∷ 40 ∷ 41 ∷ 42 ∷ 43 ∷ 44 ∷ 45 ∷ 46 ∷ 47 ∷ 48 ∷ 49 ∷ 50 ∷ 51 ∷ 52 ∷ 53 ∷ 54 ∷ 55 ∷ 56 ∷ 57 ∷ 58 ∷ 59 ∷ 60 ∷ 61 ∷ 62 ∷ 63 ∷ 64 ∷ 65 ∷ 66 ∷ 67 ∷ 68 ∷ 69 ∷ 70 ∷ 71 ∷ 72 ∷ 73 ∷ 74 ∷ 75 ∷ 76 ∷ 77 ∷ 78 ∷ 79 ∷ 80 ∷ 81 ∷ 82 ∷ 83 ∷ 84 ∷ 85 ∷ 86 ∷ 87 ∷ 88 ∷ 89 ∷ 90 ∷ 91 ∷ 92 ∷ 93 ∷ 94 ∷ 95 ∷ 96 ∷ 97 ∷ 98 ∷ 99 ∷ 100 ∷ 101 ∷ 102 ∷ []) $ carried-fault x (change-is x _ is) (e ∙ ap (λ (s : Step). doneOf (stepOf h s)) s) room z refl)))))))
+            keep ! (3 ∷ 4 ∷ 5 ∷ 6 ∷ 7 ∷ 8 ∷ 0 ∷ 9 ∷ 10 ∷ 11 ∷ 12 ∷ 13 ∷ 14 ∷ 15 ∷ 16 ∷ 17 ∷ 18 ∷ 19 ∷ 20 ∷ 21 ∷ 22 ∷ 23 ∷ 24 ∷ 25 ∷ 26 ∷ 27 ∷ 28 ∷ 29 ∷ 30 ∷ 31 ∷ 32 ∷ 33 ∷ 34 ∷ 35 ∷ 36 ∷ 37 ∷ 38 ∷ 39 ∷ 40 ∷ 41 ∷ 42 ∷ 43 ∷ 44 ∷ 45 ∷ 46 ∷ 47 ∷ 48 ∷ 49 ∷ 50 ∷ 51 ∷ 52 ∷ 53 ∷ 54 ∷ 55 ∷ 56 ∷ 57 ∷ 58 ∷ 59 ∷ 60 ∷ 61 ∷ 62 ∷ 63 ∷ 64 ∷ 65 ∷ 66 ∷ 67 ∷ 68 ∷ 69 ∷ 70 ∷ 71 ∷ 72 ∷ 73 ∷ 74 ∷ 75 ∷ 76 ∷ 77 ∷ 78 ∷ 79 ∷ 80 ∷ 81 ∷ 82 ∷ 83 ∷ 84 ∷ 85 ∷ 86 ∷ 87 ∷ 88 ∷ 89 ∷ 90 ∷ 91 ∷ 92 ∷ 93 ∷ 94 ∷ 95 ∷ 96 ∷ 97 ∷ 98 ∷ 99 ∷ 100 ∷ 101 ∷ 102 ∷ []) $ carried-fault x (change-is x _ is) (ap (changed h) e ∙ fault-changes h k ∙ ap (λ (s : Step). doneOf (stepOf h s)) s) room z refl)))))))
 
         -- what `Timeout` changes is carried out
         carried-timeout : {y2 y45 : Val} (x : Change) → Is S.the-row x (LL.val S.the-type S′.the-laws x ∷ []) → changed h x ≡ doneOf (stepOf h (stepFor call f room)) → (zs : List ℕ) → zs ≡ roomFor h call room → length zs ≡ length room → Sq W (‵ (fobs γ (T.the-row .coded .code h)) ∷ ‵ (fbor κ (Body (mem T.the-row) b o γ)) ∷ ‵ (flft κ q) ∷ ‵ Bytes ∷ ‵ (flft κ-f q-f) ∷ ‵ (flft κ-room q-room) ∷ ‵ (finally u8 γ-room zs) ∷ ‵ (froom Answer-row′.mir l0 0) ∷ ‵ (fat fullShare (tyRef (named 0) mut rec-ty) l1 0 (vptr b o)) ∷ ‵ (fat fullShare Call-row′.mir l2 0 y2) ∷ ‵ (fat fullShare (sliceTy (tyRef (named 1) imm (tyInt w8))) l3 0 s-f) ∷ ‵ (fat fullShare (sliceTy (tyRef (named 2) mut (tyInt w8))) l4 0 s-room) ∷ ‵ (froom (tyInt w8) l5 0) ∷ ‵ (froom Control-row′.mir l6 0) ∷ ‵ (froom (tyInt w64) l7 0) ∷ ‵ (froom Row′.mir l8 0) ∷ ‵ (froom (tyInt w8) l9 0) ∷ ‵ (froom (tyInt w8) l10 0) ∷ ‵ (froom Sync-row′.mir l11 0) ∷ ‵ (froom out-ty l12 0) ∷ ‵ (froom out-ty l13 0) ∷ ‵ (froom (tyInt w8) l14 0) ∷ ‵ (froom Ruling-row′.mir l15 0) ∷ ‵ (froom (tyInt w64) l16 0) ∷ ‵ (froom Row′.mir l17 0) ∷ ‵ (froom out-ty l18 0) ∷ ‵ (froom tyBool l19 0) ∷ ‵ (froom Fault-row′.mir l20 0) ∷ ‵ (froom out-ty l21 0) ∷ ‵ (fat fullShare out-ty l22 0 (LL.val S.the-type S′.the-laws x)) ∷ ‵ (froom Answer-row′.mir l23 0) ∷ ‵ (froom T′.mir l24 0) ∷ ‵ (froom (tyInt w64) l25 0) ∷ ‵ (froom tyPtr l26 0) ∷ ‵ (froom tyPtr l27 0) ∷ ‵ (froom Row′.mir l28 0) ∷ ‵ (froom (tyRef erased mut rec-ty) l29 0) ∷ ‵ (froom T′.mir l30 0) ∷ ‵ (froom (tyRef erased mut rec-ty) l31 0) ∷ ‵ (froom T′.mir l32 0) ∷ ‵ (froom (tyRef erased mut rec-ty) l33 0) ∷ ‵ (froom T′.mir l34 0) ∷ ‵ (froom (tyInt w64) l35 0) ∷ ‵ (froom tyPtr l36 0) ∷ ‵ (froom tyPtr l37 0) ∷ ‵ (froom Row′.mir l38 0) ∷ ‵ (froom (tyRef erased mut (tyInt w8)) l39 0) ∷ ‵ (froom (sliceTy (tyRef erased mut (tyInt w8))) l40 0) ∷ ‵ (froom (tyRef erased mut rec-ty) l41 0) ∷ ‵ (froom (tyRef erased mut rec-ty) l42 0) ∷ ‵ (froom T′.mir l43 0) ∷ ‵ (froom (tyRef erased mut rec-ty) l44 0) ∷ ‵ (fat fullShare T′.mir l45 0 y45) ∷ ‵ (froom (tyRef erased mut rec-ty) l46 0) ∷ Dies) (runs C Λ En (carrying 46 22) (anyQ (Next call)))
@@ -811,11 +814,11 @@ module _ {M : Type 1} (𝓤 : URA M) (H : Heap 𝓤) (A : Atoms 𝓤) (W : Given
             use0 W (raw ((Timeouts 𝓤 H A at-mem run) .pre to-timeout)) (asked-timeout was) $
             calls-at ! fm (Timeouts 𝓤 H A at-mem run) known-timeouts to-timeout (and-then ! (load ! (from ! (stop !)) (look ! 55 refl)) (no-more !)) (λ v.
             use1 W (later (some (λ (x : Change). (‵ ftrue ⊛ ‵ (S.the-row .own x (v ∷ []))) ⊛ raw (ensured 𝓤 H A timeouts.ended (timeouts.clauses 𝓤 H A at-mem run) tt args-timeout tt x)))) (id⊢ 𝓤 _) $ await ! tt $ pick ! (λ x.
-            split ! $ move ! (1 ∷ []) $ use1 W (some (λ (ws : Lasts timeouts.ended tt args-timeout). ‵ (lasts timeouts.ended tt args-timeout ws) ⊛ raw (fact 𝓤 (changed h x ≡ doneOf (stepOf h (timeout)))))) (id⊢ 𝓤 _) $ pick ! (λ ws.
-            split ! $ move ! (1 ∷ []) $ heard ! (changed h x ≡ doneOf (stepOf h (timeout))) (λ e. drop ! $ split ! $ drop ! $
+            split ! $ move ! (1 ∷ []) $ use1 W (some (λ (ws : Lasts timeouts.ended tt args-timeout). ‵ (lasts timeouts.ended tt args-timeout ws) ⊛ raw (fact 𝓤 (x ≡ eventChange h timeout)))) (id⊢ 𝓤 _) $ pick ! (λ ws.
+            split ! $ move ! (1 ∷ []) $ heard ! (x ≡ eventChange h timeout) (λ e. drop ! $ split ! $ drop ! $
             peeks ! S.the-row (Is S.the-row) (shows 𝓤 H A S.the-row) x (v ∷ []) (λ is. drop ! $
             land ! (from ! (stop !)) (init ! 31 refl (LL.lawful S.the-type S′.the-laws 𝓤 H A W .typed x _ is .0)) $ rewrite ! 31 (λ (u : Val). ‵ (fat fullShare out-ty l22 0 u)) (ap only (LL.tells S.the-type S′.the-laws x _ is)) refl $
-            keep ! (3 ∷ 4 ∷ 5 ∷ 6 ∷ 7 ∷ 8 ∷ 0 ∷ 9 ∷ 10 ∷ 11 ∷ 12 ∷ 13 ∷ 14 ∷ 15 ∷ 16 ∷ 17 ∷ 18 ∷ 19 ∷ 20 ∷ 21 ∷ 22 ∷ 23 ∷ 24 ∷ 25 ∷ 26 ∷ 27 ∷ 28 ∷ 29 ∷ 30 ∷ 31 ∷ 32 ∷ 33 ∷ 34 ∷ 35 ∷ 36 ∷ 37 ∷ 38 ∷ 39 ∷ 40 ∷ 41 ∷ 42 ∷ 43 ∷ 44 ∷ 45 ∷ 46 ∷ 47 ∷ 48 ∷ 49 ∷ 50 ∷ 51 ∷ 52 ∷ 53 ∷ 54 ∷ 55 ∷ 56 ∷ 57 ∷ 58 ∷ 59 ∷ 60 ∷ 61 ∷ 62 ∷ 63 ∷ 64 ∷ 65 ∷ 66 ∷ 67 ∷ 68 ∷ 69 ∷ 70 ∷ 71 ∷ 72 ∷ 73 ∷ 74 ∷ 75 ∷ 76 ∷ 77 ∷ 78 ∷ 79 ∷ 80 ∷ 81 ∷ 82 ∷ 83 ∷ 84 ∷ 85 ∷ 86 ∷ 87 ∷ 88 ∷ 89 ∷ 90 ∷ 91 ∷ 92 ∷ 93 ∷ 94 ∷ 95 ∷ 96 ∷ 97 ∷ 98 ∷ 99 ∷ 100 ∷ 101 ∷ 102 ∷ []) $ carried-timeout x (change-is x _ is) (e ∙ ap (λ (s : Step). doneOf (stepOf h s)) s) room z refl)))))))
+            keep ! (3 ∷ 4 ∷ 5 ∷ 6 ∷ 7 ∷ 8 ∷ 0 ∷ 9 ∷ 10 ∷ 11 ∷ 12 ∷ 13 ∷ 14 ∷ 15 ∷ 16 ∷ 17 ∷ 18 ∷ 19 ∷ 20 ∷ 21 ∷ 22 ∷ 23 ∷ 24 ∷ 25 ∷ 26 ∷ 27 ∷ 28 ∷ 29 ∷ 30 ∷ 31 ∷ 32 ∷ 33 ∷ 34 ∷ 35 ∷ 36 ∷ 37 ∷ 38 ∷ 39 ∷ 40 ∷ 41 ∷ 42 ∷ 43 ∷ 44 ∷ 45 ∷ 46 ∷ 47 ∷ 48 ∷ 49 ∷ 50 ∷ 51 ∷ 52 ∷ 53 ∷ 54 ∷ 55 ∷ 56 ∷ 57 ∷ 58 ∷ 59 ∷ 60 ∷ 61 ∷ 62 ∷ 63 ∷ 64 ∷ 65 ∷ 66 ∷ 67 ∷ 68 ∷ 69 ∷ 70 ∷ 71 ∷ 72 ∷ 73 ∷ 74 ∷ 75 ∷ 76 ∷ 77 ∷ 78 ∷ 79 ∷ 80 ∷ 81 ∷ 82 ∷ 83 ∷ 84 ∷ 85 ∷ 86 ∷ 87 ∷ 88 ∷ 89 ∷ 90 ∷ 91 ∷ 92 ∷ 93 ∷ 94 ∷ 95 ∷ 96 ∷ 97 ∷ 98 ∷ 99 ∷ 100 ∷ 101 ∷ 102 ∷ []) $ carried-timeout x (change-is x _ is) (ap (changed h) e ∙ timeout-changes h ∙ ap (λ (s : Step). doneOf (stepOf h s)) s) room z refl)))))))
 
       -- the switch: what is left computes to the arm that runs
       matched : (call : Call) → Is Call-row.the-row call (EL.val Call-row.the-type Call-row′.the-laws call ∷ []) → Sq W (‵ Rec ∷ ‵ (flft κ q) ∷ ‵ Bytes ∷ ‵ (flft κ-f q-f) ∷ ‵ Room′ ∷ ‵ (flft κ-room q-room) ∷ ‵ (froom Answer-row′.mir l0 0) ∷ ‵ (fat fullShare (tyRef (named 0) mut rec-ty) l1 0 (vptr b o)) ∷ ‵ (fat fullShare Call-row′.mir l2 0 (EL.val Call-row.the-type Call-row′.the-laws call)) ∷ ‵ (fat fullShare (sliceTy (tyRef (named 1) imm (tyInt w8))) l3 0 s-f) ∷ ‵ (fat fullShare (sliceTy (tyRef (named 2) mut (tyInt w8))) l4 0 s-room) ∷ ‵ (froom (tyInt w8) l5 0) ∷ ‵ (froom Control-row′.mir l6 0) ∷ ‵ (froom (tyInt w64) l7 0) ∷ ‵ (froom Row′.mir l8 0) ∷ ‵ (froom (tyInt w8) l9 0) ∷ ‵ (froom (tyInt w8) l10 0) ∷ ‵ (froom Sync-row′.mir l11 0) ∷ ‵ (froom out-ty l12 0) ∷ ‵ (froom out-ty l13 0) ∷ ‵ (froom (tyInt w8) l14 0) ∷ ‵ (froom Ruling-row′.mir l15 0) ∷ ‵ (froom (tyInt w64) l16 0) ∷ ‵ (froom Row′.mir l17 0) ∷ ‵ (froom out-ty l18 0) ∷ ‵ (froom tyBool l19 0) ∷ ‵ (froom Fault-row′.mir l20 0) ∷ ‵ (froom out-ty l21 0) ∷ ‵ (froom out-ty l22 0) ∷ ‵ (froom Answer-row′.mir l23 0) ∷ ‵ (froom T′.mir l24 0) ∷ ‵ (froom (tyInt w64) l25 0) ∷ ‵ (froom tyPtr l26 0) ∷ ‵ (froom tyPtr l27 0) ∷ ‵ (froom Row′.mir l28 0) ∷ ‵ (froom (tyRef erased mut rec-ty) l29 0) ∷ ‵ (froom T′.mir l30 0) ∷ ‵ (froom (tyRef erased mut rec-ty) l31 0) ∷ ‵ (froom T′.mir l32 0) ∷ ‵ (froom (tyRef erased mut rec-ty) l33 0) ∷ ‵ (froom T′.mir l34 0) ∷ ‵ (froom (tyInt w64) l35 0) ∷ ‵ (froom tyPtr l36 0) ∷ ‵ (froom tyPtr l37 0) ∷ ‵ (froom Row′.mir l38 0) ∷ ‵ (froom (tyRef erased mut (tyInt w8)) l39 0) ∷ ‵ (froom (sliceTy (tyRef erased mut (tyInt w8))) l40 0) ∷ ‵ (froom (tyRef erased mut rec-ty) l41 0) ∷ ‵ (froom (tyRef erased mut rec-ty) l42 0) ∷ ‵ (froom T′.mir l43 0) ∷ ‵ (froom (tyRef erased mut rec-ty) l44 0) ∷ ‵ (froom T′.mir l45 0) ∷ ‵ (froom (tyRef erased mut rec-ty) l46 0) ∷ Dies) (runs C Λ En the-match (anyQ (Next call)))

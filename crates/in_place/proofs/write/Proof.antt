@@ -58,7 +58,9 @@ use mir.Syntax.{tyPtr, op2, unsigned, mul, offset, int as intᴹ}
 use denote.Index.{place-is}
 use Rattle.contents.specs.Bytes.{noContents}
 use Rattle.controller.specs.Carry.{rowAt}
-use Rattle.controller.specs.Code.{windowRow}
+use Rattle.controller.specs.Code.{windowRow, controlChange, writeChange}
+use Rattle.controller.specs.AccessLaws.{write-changes}
+use Rattle.controller.proofs.RegisterLaws.{control-changes}
 use Rattle.in_place.proofs.Element.{elem-at}
 use Rattle.in_place.proofs.Rows.{at-rows, values, value-at, window-below, byte-fits, sixteen-rows, sixteen-values, in-rows, row-is, control-is}
 use Rattle.controller.specs.declared.Controller.{Controller}
@@ -265,11 +267,11 @@ module _ {M : Type 1} (𝓤 : URA M) (H : Heap 𝓤) (A : Atoms 𝓤) (W : Given
           use0 W (raw ((Lows 𝓤 H A at-mem run) .pre (to-lows (rowAt (h .rows) i)))) (asked-lows (rowAt (h .rows) i) d-is k-is) $
           calls-at ! fm (Lows 𝓤 H A at-mem run) known-lows (to-lows (rowAt (h .rows) i)) (and-then ! (load ! (from ! (stop !)) (look ! 8 refl)) (and-then ! (load ! (from ! (stop !)) (look ! 6 refl)) (and-then ! (load ! (from ! (stop !)) (look ! 7 refl)) (and-then ! (load ! (from ! (stop !)) (look ! 10 refl)) (no-more !))))) (λ v.
           use1 W (later (some (λ (x : Change). (‵ ftrue ⊛ ‵ (S.the-row .own x (v ∷ []))) ⊛ raw (ensured 𝓤 H A lows.ended (lows.clauses 𝓤 H A at-mem run) tt (args-lows (rowAt (h .rows) i)) tt x)))) (id⊢ 𝓤 _) $ await ! tt $ pick ! (λ x.
-          split ! $ move ! (1 ∷ []) $ use1 W (some (λ (ws : Lasts lows.ended tt (args-lows (rowAt (h .rows) i))). ‵ (lasts lows.ended tt (args-lows (rowAt (h .rows) i)) ws) ⊛ raw (fact 𝓤 ((c : Controller) → c .control ≡ h .control → length (c .rows) ≡ 16 → rowAt (h .rows) i ≡ rowAt (c .rows) (windowRow (h .control) (registerAt n)) → changed c x ≡ doneOf (stepOf c (writeStep n u)))))) (id⊢ 𝓤 _) $ pick ! (λ ws.
-          split ! $ move ! (1 ∷ []) $ heard ! ((c : Controller) → c .control ≡ h .control → length (c .rows) ≡ 16 → rowAt (h .rows) i ≡ rowAt (c .rows) (windowRow (h .control) (registerAt n)) → changed c x ≡ doneOf (stepOf c (writeStep n u))) (λ g. drop ! $ split ! $ drop ! $
+          split ! $ move ! (1 ∷ []) $ use1 W (some (λ (ws : Lasts lows.ended tt (args-lows (rowAt (h .rows) i))). ‵ (lasts lows.ended tt (args-lows (rowAt (h .rows) i)) ws) ⊛ raw (fact 𝓤 (x ≡ writeChange (h .control) n u (rowAt (h .rows) i))))) (id⊢ 𝓤 _) $ pick ! (λ ws.
+          split ! $ move ! (1 ∷ []) $ heard ! (x ≡ writeChange (h .control) n u (rowAt (h .rows) i)) (λ g. drop ! $ split ! $ drop ! $
           peeks ! S.the-row (Is S.the-row) (shows 𝓤 H A S.the-row) x (v ∷ []) (λ is. drop ! $
           land ! (from ! (stop !)) (init ! 10 refl (LL.lawful S.the-type S′.the-laws 𝓤 H A W .typed x _ is .0)) $ rewrite ! 10 (λ (u : Val). ‵ (fat fullShare out-ty l7 0 u)) (ap only (LL.tells S.the-type S′.the-laws x _ is)) refl $
-          carried-low x (change-is x _ is) (g h refl sixteen (ap (rowAt (h .rows)) p)))))))
+          carried-low x (change-is x _ is) (ap (changed h) g ∙ write-changes h sixteen n u _ (ap (rowAt (h .rows)) p)))))))
 
       -- the row is read
       reading-low : {y10 : Val} → Is Control-row.the-row (h .control) (LL.val Control-row.the-type Control-row′.the-laws (h .control) ∷ []) → (i : ℕ) → i ≡ windowRow (h .control) (registerAt n) → Sq W (‵ (fobs γ (T.the-row .coded .code h)) ∷ ‵ (fbor κ (Body (mem T.the-row) b o γ)) ∷ ‵ (flft κ q) ∷ ‵ (froom Answer-row′.mir l0 0) ∷ ‵ (fat fullShare (tyRef (named 0) mut rec-ty) l1 0 (vptr b o)) ∷ ‵ (fat fullShare (tyInt w8) l2 0 (vint w8 n)) ∷ ‵ (fat fullShare (tyInt w8) l3 0 (vint w8 u)) ∷ ‵ (fat fullShare Control-row′.mir l4 0 (LL.val Control-row.the-type Control-row′.the-laws (h .control))) ∷ ‵ (fat fullShare (tyInt w64) l5 0 (vint w64 i)) ∷ ‵ (froom Row′.mir l6 0) ∷ ‵ (froom out-ty l7 0) ∷ ‵ (froom Control-row′.mir l8 0) ∷ ‵ (froom out-ty l9 0) ∷ ‵ (fat fullShare tyBool l10 0 y10) ∷ ‵ (froom Answer-row′.mir l11 0) ∷ ‵ (froom (tyInt w64) l12 0) ∷ ‵ (froom tyPtr l13 0) ∷ ‵ (froom tyPtr l14 0) ∷ ‵ (froom Row′.mir l15 0) ∷ ‵ (froom (tyRef erased mut rec-ty) l16 0) ∷ ‵ (froom (tyInt w8) l17 0) ∷ ‵ (froom (tyRef erased mut rec-ty) l18 0) ∷ Dies) (runs C Λ En code-reading-low (anyQ Next))
@@ -339,11 +341,11 @@ module _ {M : Type 1} (𝓤 : URA M) (H : Heap 𝓤) (A : Atoms 𝓤) (W : Given
           use0 W (raw ((Controls 𝓤 H A at-mem run) .pre to-controls)) (asked-controls (control-is h was)) $
           calls-at ! fm (Controls 𝓤 H A at-mem run) known-controls to-controls (and-then ! (load ! (from ! (stop !)) (look ! 12 refl)) (and-then ! (load ! (from ! (stop !)) (look ! 21 refl)) (and-then ! (load ! (from ! (stop !)) (look ! 7 refl)) (no-more !)))) (λ v.
           use1 W (later (some (λ (x : Change). (‵ ftrue ⊛ ‵ (S.the-row .own x (v ∷ []))) ⊛ raw (ensured 𝓤 H A controls.ended (controls.clauses 𝓤 H A at-mem run) tt args-controls tt x)))) (id⊢ 𝓤 _) $ await ! tt $ pick ! (λ x.
-          split ! $ move ! (1 ∷ []) $ use1 W (some (λ (ws : Lasts controls.ended tt args-controls). ‵ (lasts controls.ended tt args-controls ws) ⊛ raw (fact 𝓤 ((c : Controller) → c .control ≡ h .control → changed c x ≡ doneOf (stepOf c (writeStep (0x50 + (n - 0x50)) u)))))) (id⊢ 𝓤 _) $ pick ! (λ ws.
-          split ! $ move ! (1 ∷ []) $ heard ! ((c : Controller) → c .control ≡ h .control → changed c x ≡ doneOf (stepOf c (writeStep (0x50 + (n - 0x50)) u))) (λ g. drop ! $ split ! $ drop ! $
+          split ! $ move ! (1 ∷ []) $ use1 W (some (λ (ws : Lasts controls.ended tt args-controls). ‵ (lasts controls.ended tt args-controls ws) ⊛ raw (fact 𝓤 (x ≡ controlChange (h .control) (n - 0x50) u)))) (id⊢ 𝓤 _) $ pick ! (λ ws.
+          split ! $ move ! (1 ∷ []) $ heard ! (x ≡ controlChange (h .control) (n - 0x50) u) (λ g. drop ! $ split ! $ drop ! $
           peeks ! S.the-row (Is S.the-row) (shows 𝓤 H A S.the-row) x (v ∷ []) (λ is. drop ! $
           land ! (from ! (stop !)) (init ! 12 refl (LL.lawful S.the-type S′.the-laws 𝓤 H A W .typed x _ is .0)) $ rewrite ! 12 (λ (u : Val). ‵ (fat fullShare out-ty l9 0 u)) (ap only (LL.tells S.the-type S′.the-laws x _ is)) refl $
-          carried-control x (change-is x _ is) (g h refl ∙ ap (λ (k : ℕ). doneOf (stepOf h (writeStep k u))) (let above = nltb→le n 0x50 t in omega arith)))))))))
+          carried-control x (change-is x _ is) (ap (changed h) g ∙ control-changes h (sixteen-rows h was) n u (nltb→le n 0x50 t)))))))))
 
       -- the address is tested
       tested : Sq W (‵ Rec ∷ ‵ (flft κ q) ∷ ‵ (froom Answer-row′.mir l0 0) ∷ ‵ (fat fullShare (tyRef (named 0) mut rec-ty) l1 0 (vptr b o)) ∷ ‵ (fat fullShare (tyInt w8) l2 0 (vint w8 n)) ∷ ‵ (fat fullShare (tyInt w8) l3 0 (vint w8 u)) ∷ ‵ (froom Control-row′.mir l4 0) ∷ ‵ (froom (tyInt w64) l5 0) ∷ ‵ (froom Row′.mir l6 0) ∷ ‵ (froom out-ty l7 0) ∷ ‵ (froom Control-row′.mir l8 0) ∷ ‵ (froom out-ty l9 0) ∷ ‵ (froom tyBool l10 0) ∷ ‵ (froom Answer-row′.mir l11 0) ∷ ‵ (froom (tyInt w64) l12 0) ∷ ‵ (froom tyPtr l13 0) ∷ ‵ (froom tyPtr l14 0) ∷ ‵ (froom Row′.mir l15 0) ∷ ‵ (froom (tyRef erased mut rec-ty) l16 0) ∷ ‵ (froom (tyInt w8) l17 0) ∷ ‵ (froom (tyRef erased mut rec-ty) l18 0) ∷ Dies) (runs C Λ En pieces.t-1 (atRet En Post))

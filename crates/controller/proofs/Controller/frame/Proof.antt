@@ -3,7 +3,9 @@ use native.Mathlib.Omega.{arith}
 use lib.ListN.{length-map}
 use borrow.Author.Needs.{needs}
 use Rattle.controller.specs.Carry.{rowAt}
-use Rattle.controller.specs.CodeLaws.{row-within}
+use Rattle.controller.specs.Code.{changed, ruled}
+use Rattle.controller.specs.CodeLaws.{row-within, frame-ruled}
+use Rattle.controller.proofs.EventLaws.{ruling-changes}
 use Rattle.controller.proofs.Controller.frame.Statement.{statement}
 use Rattle.controller.proofs.Controller.frame.Tie as tie
 
@@ -34,8 +36,9 @@ returns c =
     let start = c .before .before .before .before .before .before in
     let self = start .args .t1 in
     let sixteen = sym (length-map (self .rows) _) ∙ start .good .0 .1 .1 .1 .0 .1 .0 .1 in
-    c .carried .ensures ∙ c .before .ruling-change .ensures self sixteen (ap (rowAt (self .rows)) (c .before .before .before .row-of .ensures))
-    ∙ c .before .before .before .before .frame-ruling .ensures
+    c .carried .ensures ∙ ap (changed self) (c .before .ruling-change .ensures)
+    ∙ ruling-changes self sixteen (start .args .f .now) _ _ (ap (rowAt (self .rows)) (c .before .before .before .row-of .ensures))
+    ∙ ap (ruled self (start .args .f .now)) (c .before .before .before .before .frame-ruling .ensures) ∙ frame-ruled self (start .args .good) (start .args .f .now)
 
 pub frame-spec : {M : Type 1} → statement M
 frame-spec =

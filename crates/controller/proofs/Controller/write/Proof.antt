@@ -1,6 +1,8 @@
-use mathlib.Core.Path.{refl, ap, _∙_}
+use mathlib.Core.Path.{ap, _∙_}
 use borrow.Author.Needs.{needs}
 use Rattle.controller.specs.Carry.{rowAt}
+use Rattle.controller.specs.Code.{changed}
+use Rattle.controller.specs.AccessLaws.{write-changes}
 use Rattle.controller.proofs.RegisterLaws.{sixteen-rows}
 use Rattle.controller.proofs.Controller.write.Statement.{statement}
 use Rattle.controller.proofs.Controller.write.Tie as tie
@@ -24,7 +26,8 @@ returns : tie.Need-returns
 returns c =
     let start = c .before .before .before .before .before in
     let self = start .args .t1 in
-    c .carried .ensures ∙ c .before .write-change .ensures self refl (sixteen-rows self _ (start .good .0)) (ap (rowAt (self .rows)) (c .before .before .before .window-row .ensures))
+    c .carried .ensures ∙ ap (changed self) (c .before .write-change .ensures)
+    ∙ write-changes self (sixteen-rows self _ (start .good .0)) (start .args .a) (start .args .v) _ (ap (rowAt (self .rows)) (c .before .before .before .window-row .ensures))
 
 pub write-spec : {M : Type 1} → statement M
 write-spec =

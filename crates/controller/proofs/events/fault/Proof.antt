@@ -1,10 +1,9 @@
-use mathlib.Core.Path.{sym, _∙_}
+use mathlib.Core.Path.{ap, _∙_}
 use borrow.Author.Needs.{needs}
-use Rattle.rules.specs.declared.Answer.the-variants.{Ok}
-use Rattle.rules.specs.Plan.{plain}
-use Rattle.rules.specs.Bus.{faulted}
-use Rattle.rules.specs.Rules.{wakes}
-use Rattle.controller.specs.CodeLaws.{said-plan, faulted-kept, wakes-says, fault-step}
+use Rattle.masks.specs.Pick.{pick}
+use Rattle.rules.specs.Refusals.{refusal}
+use Rattle.rules.specs.Rules.{act, decide}
+use Rattle.controller.specs.Code.{rulingFor, saidChange}
 use Rattle.controller.proofs.events.fault.Statement.{statement}
 use Rattle.controller.proofs.events.fault.Tie as tie
 
@@ -15,10 +14,8 @@ said-requires : tie.Need-said-requires
 said-requires c κs = search needs
 
 returns : tie.Need-returns
-returns c =
-    let a = c .before .before .before .args in
-    said-plan (a .c) _ _ (wakes (a .c .control) (plain (faulted (a .k) (a .c .control)) Ok)) (c .said .ensures) (c .before .on-fault .ensures) (wakes-says (a .c .control) _ Ok (faulted-kept (a .k) (a .c .control)))
-    ∙ sym (fault-step (a .c) (a .k))
+unfolding rulingFor decide refusal act pick
+returns c = c .said .ensures ∙ ap (saidChange (c .before .before .before .args .c .control)) (c .before .on-fault .ensures)
 
 pub fault-spec : {M : Type 1} → statement M
 fault-spec = tie.close (tie.spec on-fault-requires said-requires returns)

@@ -6,6 +6,7 @@ use Rattle.sending.specs.CodeRoom.{roomAfter}
 use Rattle.rules.specs.declared.Verdict.{Verdict}
 use Rattle.controller.specs.Carry.{rowAt}
 use Rattle.controller.specs.Code.{rowIndex, roomSent}
+use Rattle.controller.proofs.EventLaws.{row-bytes}
 use Rattle.controller.proofs.events.fill.Statement.{statement}
 use Rattle.controller.proofs.events.fill.Tie as tie
 
@@ -38,7 +39,7 @@ returns-3 c =
     let room = c .before .before .before .before .before .before .before .before .before .args .room .now in
     let v = c .before .before .before .before .before .before .verdict .given .1 in
     λ rows e. c .before .before .send .ensures .1
-    ∙ ap (λ (b : List ℕ). roomAfter (record { bytes = b }) room) (c .before .before .before .before .bytes-at .ensures rows (e ∙ ap (λ (u : Verdict). rowAt rows (rowIndex u)) v))
+    ∙ ap (λ (b : List ℕ). roomAfter (record { bytes = b }) room) (c .before .before .before .before .bytes-at .ensures ∙ row-bytes rows _ _ (e ∙ ap (λ (u : Verdict). rowAt rows (rowIndex u)) v))
     ∙ ap (roomSent rows room) (sym v)
 
 pub fill-spec : {M : Type 1} → statement M

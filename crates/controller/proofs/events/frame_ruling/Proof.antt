@@ -1,8 +1,6 @@
-use mathlib.Core.Path.{sym, _∙_}
 use native.Mathlib.Omega.{arith}
 use borrow.Author.Needs.{needs}
-use Rattle.controller.specs.Code.{ruled}
-use Rattle.controller.specs.CodeLaws.{frame-step, frame-refused}
+use Rattle.controller.specs.CodeLaws.{frame-ruling, frame-refused}
 use Rattle.controller.proofs.EventLaws.{size-told, sized-long}
 use Rattle.controller.proofs.events.frame_ruling.Statement.{statement}
 use Rattle.controller.proofs.events.frame_ruling.Tie as tie
@@ -11,10 +9,9 @@ well-sized-requires : tie.Need-well-sized-requires
 well-sized-requires c κs = search needs
 
 returns : tie.Need-returns
-unfolding ruled
 returns c =
     let a = c .before .before .before .before .args in
-    sym (frame-refused (a .c) (a .good) (a .f .now) (size-told (a .f .now) _ (c .before .well-sized .ensures) (c .if1 .taken)))
+    frame-refused (a .c) (a .good) (a .f .now) (size-told (a .f .now) _ (c .before .well-sized .ensures) (c .if1 .taken))
 
 shared-slice-read-i : tie.Need-shared-slice-read-i
 shared-slice-read-i c =
@@ -33,7 +30,7 @@ returns-2 c =
     let a = c .before .before .before .before .before .before .before .args in
     let f = a .f .now in
     let known = size-told f _ (c .before .before .before .before .well-sized .ensures) (c .before .before .before .if1 .left) in
-    rw (c .on-frame .ensures) (sym (frame-step (a .c) (a .good) f (c .before .lookup .result) known (c .before .lookup .ensures)))
+    rw (c .on-frame .ensures) (frame-ruling (a .c) (a .good) f (c .before .lookup .result) known (c .before .lookup .ensures))
 
 pub frame-ruling-spec : {M : Type 1} → statement M
 frame-ruling-spec =

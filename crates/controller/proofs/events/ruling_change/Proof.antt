@@ -1,9 +1,11 @@
-use mathlib.Core.Path.{_≡_, sym, ap, _∙_}
+use mathlib.Core.Path.{ap, _∙_}
+use Prim.Native.Nat.{ℕ}
+use mathlib.Core.List.{List}
+use lib.ListN.{length}
 use borrow.Author.Needs.{needs}
-use Rattle.controller.specs.Carry.{rowAt}
-use Rattle.controller.specs.Code.{rowIndex, ruled}
-use Rattle.controller.specs.CodeLaws.{says-only}
-use Rattle.controller.proofs.EventLaws.{frame-row}
+use Rattle.contents.specs.Bytes.{frameOf}
+use Rattle.rules.specs.declared.Answer.the-variants.{Sent}
+use Rattle.controller.specs.Code.{saying, rulingChange}
 use Rattle.controller.proofs.events.ruling_change.Statement.{statement}
 use Rattle.controller.proofs.events.ruling_change.Tie as tie
 
@@ -32,24 +34,19 @@ with-answer-requires-2 : tie.Need-with-answer-requires-2
 with-answer-requires-2 c κs = search needs
 
 returns : tie.Need-returns
-unfolding ruled
-returns c =
-    let r = c .before .before .before .before .before .before .args .r in
-    λ d sixteen e. says-only d _ (r .next) _ (c .with-answer .ensures) ∙ simp (c .before .before .verdict .given .1)
+unfolding rulingChange
+returns c = rw (c .before .before .verdict .given .1) (c .with-answer .ensures)
 
 returns-2 : tie.Need-returns-2
-unfolding ruled
-returns-2 c =
-    let v = c .before .before .verdict2 .given .1 in
-    λ d sixteen e. c .stored .ensures d sixteen (e ∙ ap (λ u. rowAt (d .rows) (rowIndex u)) v) ∙ simp v
+unfolding rulingChange
+returns-2 c = rw (c .before .before .verdict2 .given .1) (c .stored .ensures)
 
 returns-3 : tie.Need-returns-3
-unfolding ruled
+unfolding rulingChange
 returns-3 c =
-    let r = c .before .before .before .before .before .before .before .before .args .r in
-    let v = c .before .before .before .before .verdict3 .given in
-    λ d sixteen e. says-only d _ (r .next) _ (c .with-answer2 .ensures)
-    ∙ simp (v .1, c .before .frame-size .ensures, c .before .before .bytes-at .ensures (d .rows) (e ∙ ap (λ u. rowAt (d .rows) (rowIndex u)) (v .1)), frame-row (d .rows) (v .0 .0) sixteen)
+    let d = c .before .before .before .before .before .before .before .before .args .r .next in
+    rw (c .before .before .before .before .verdict3 .given .1)
+    (c .with-answer2 .ensures ∙ ap (λ (k : ℕ). saying d (Sent k)) (c .before .frame-size .ensures) ∙ ap (λ (b : List ℕ). saying d (Sent (length (frameOf (record { bytes = b }))))) (c .before .before .bytes-at .ensures))
 
 pub ruling-change-spec : {M : Type 1} → statement M
 ruling-change-spec =

@@ -1,9 +1,11 @@
+use mathlib.Core.Path.{sym, ap, _∙_}
+use Prim.Native.Nat.{ℕ}
 use mathlib.Core.List.{List}
-use mathlib.Core.Path.{ap, _∙_}
+use lib.Dec.{ltb}
+use borrow.Author.Tests.{lt-ltb, le-ltb}
 use borrow.Author.Needs.{needs}
-use Rattle.contents.specs.declared.Contents.{Contents}
-use Rattle.controller.specs.CodeLaws.{says-only, places-one}
-use Rattle.controller.proofs.EventLaws.{row-bytes, stored-in, stored-out}
+use Rattle.masks.specs.PickLaws.{pick-true, pick-false}
+use Rattle.controller.specs.Code.{placing}
 use Rattle.controller.proofs.events.stored.Statement.{statement}
 use Rattle.controller.proofs.events.stored.Tie as tie
 
@@ -11,11 +13,7 @@ with-answer-requires : tie.Need-with-answer-requires
 with-answer-requires c κs = search needs
 
 returns : tie.Need-returns
-returns c =
-    let a = c .before .before .before .args in
-    λ d sixteen e. says-only d _ (a .c) (a .a) (c .with-answer .ensures)
-    ∙ ap (λ (rows : List Contents). record { next = record { control = a .c; rows = rows }; answer = a .a })
-    (stored-out (d .rows) (a .n) (a .f .now) sixteen (c .before .if1 .taken))
+returns c = c .with-answer .ensures ∙ sym (pick-false (ltb (c .before .before .before .args .n) 16) _ _ (le-ltb (c .before .before .before .args .n) 16 (c .before .if1 .taken)))
 
 store-frame-requires : tie.Need-store-frame-requires
 store-frame-requires c κs = search needs
@@ -26,10 +24,8 @@ with-bytes-requires c κs = search needs
 returns-2 : tie.Need-returns-2
 returns-2 c =
     let a = c .before .before .before .before .before .args in
-    let low = c .before .before .before .if1 .left in
-    λ d sixteen e. places-one d _ (a .c) (a .a) (a .n) _ (c .with-bytes .ensures) low
-    ∙ ap (λ (rows : List Contents). record { next = record { control = a .c; rows = rows }; answer = a .a })
-    (stored-in (d .rows) (a .n) (a .f .now) _ _ low (row-bytes (d .rows) (a .n) (a .row) low e) (c .before .store-frame .ensures))
+    c .with-bytes .ensures ∙ ap (λ (b : List ℕ). placing (a .c) (a .n) b (a .a)) (c .before .store-frame .ensures)
+    ∙ sym (pick-true (ltb (a .n) 16) _ _ (lt-ltb (a .n) 16 (c .before .before .before .if1 .left)))
 
 pub stored-spec : {M : Type 1} → statement M
 stored-spec =

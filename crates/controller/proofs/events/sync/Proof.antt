@@ -1,10 +1,7 @@
-use mathlib.Core.Path.{sym, _∙_}
+use mathlib.Core.Path.{ap, _∙_}
 use borrow.Author.Needs.{needs}
-use Rattle.rules.specs.declared.Answer.the-variants.{Ok}
-use Rattle.rules.specs.Plan.{plain}
-use Rattle.rules.specs.Rules.{wakes}
-use Rattle.bus_steps.specs.Code.{syncedOf}
-use Rattle.controller.specs.CodeLaws.{said-plan, synced-kept, wakes-says, sync-step}
+use Rattle.controller.specs.Code.{saidChange}
+use Rattle.controller.specs.CodeLaws.{sync-ruling}
 use Rattle.controller.proofs.events.sync.Statement.{statement}
 use Rattle.controller.proofs.events.sync.Tie as tie
 
@@ -20,8 +17,7 @@ said-requires c κs = search needs
 returns : tie.Need-returns
 returns c =
     let a = c .before .before .before .before .args in
-    said-plan (a .c) _ _ (wakes (a .c .control) (plain (syncedOf (a .k) (a .c .control) (c .before .before .named .result)) Ok)) (c .said .ensures) (c .before .on-sync .ensures) (wakes-says (a .c .control) _ Ok (synced-kept (a .k) (a .c .control) (c .before .before .named .result)))
-    ∙ sym (sync-step (a .c) (a .k) (c .before .before .named .result) (c .before .before .named .ensures))
+    c .said .ensures ∙ ap (saidChange (a .c .control)) (c .before .on-sync .ensures ∙ sync-ruling (a .c) (a .k) (c .before .before .named .result) (c .before .before .named .ensures))
 
 pub sync-spec : {M : Type 1} → statement M
 sync-spec = tie.close (tie.spec named-requires on-sync-requires said-requires returns)

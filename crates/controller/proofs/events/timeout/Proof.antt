@@ -1,10 +1,9 @@
-use mathlib.Core.Path.{sym, _∙_}
+use mathlib.Core.Path.{ap, _∙_}
 use borrow.Author.Needs.{needs}
-use Rattle.rules.specs.declared.Answer.the-variants.{Ok}
-use Rattle.rules.specs.Plan.{plain}
-use Rattle.rules.specs.Bus.{timedOut}
-use Rattle.rules.specs.Rules.{sleepsOn}
-use Rattle.controller.specs.CodeLaws.{said-plan, timed-out-kept, sleeps-says, timeout-step}
+use Rattle.masks.specs.Pick.{pick}
+use Rattle.rules.specs.Refusals.{refusal}
+use Rattle.rules.specs.Rules.{act, decide}
+use Rattle.controller.specs.Code.{rulingFor, saidChange}
 use Rattle.controller.proofs.events.timeout.Statement.{statement}
 use Rattle.controller.proofs.events.timeout.Tie as tie
 
@@ -15,10 +14,8 @@ said-requires : tie.Need-said-requires
 said-requires c κs = search needs
 
 returns : tie.Need-returns
-returns c =
-    let a = c .before .before .before .args in
-    said-plan (a .c) _ _ (sleepsOn (a .c .control) (plain (timedOut (a .c .control)) Ok)) (c .said .ensures) (c .before .on-timeout .ensures) (sleeps-says (a .c .control) _ Ok (timed-out-kept (a .c .control)))
-    ∙ sym (timeout-step (a .c))
+unfolding rulingFor decide refusal act pick
+returns c = c .said .ensures ∙ ap (saidChange (c .before .before .before .args .c .control)) (c .before .on-timeout .ensures)
 
 pub timeout-spec : {M : Type 1} → statement M
 timeout-spec = tie.close (tie.spec on-timeout-requires said-requires returns)

@@ -1,15 +1,15 @@
-use mathlib.Core.Path.{sym, ap, _∙_}
-use lib.ListN.{getD}
+use mathlib.Core.Path.{sym, _∙_}
+use lib.Dec.{ltb}
+use borrow.Author.Tests.{lt-ltb, le-ltb}
 use borrow.Author.Needs.{needs}
-use Rattle.contents.specs.declared.Contents.{Contents}
+use Rattle.masks.specs.PickLaws.{pick-true, pick-false}
 use Rattle.controller.specs.Code.{windowByte}
-use Rattle.controller.proofs.EventLaws.{row-own}
-use Rattle.controller.proofs.RegisterLaws.{none-read}
 use Rattle.controller.proofs.registers.window_byte.Statement.{statement}
 use Rattle.controller.proofs.registers.window_byte.Tie as tie
 
 returns : tie.Need-returns
-returns c = λ rows sixteen e. sym (none-read rows (c .before .args .n) (c .before .args .p) sixteen (c .if1 .taken))
+unfolding windowByte
+returns c = sym (pick-false (ltb (c .before .args .n) 16) _ _ (le-ltb (c .before .args .n) 16 (c .if1 .taken)))
 
 byte-at-requires : tie.Need-byte-at-requires
 byte-at-requires c κs = search needs
@@ -17,8 +17,8 @@ byte-at-requires c κs = search needs
 returns-2 : tie.Need-returns-2
 unfolding windowByte
 returns-2 c =
-    let a = c .before .before .before .args in
-    λ rows sixteen e. c .byte-at .ensures ∙ ap (λ (b : Contents). getD (b .bytes) (a .p) 0) (row-own rows (a .n) (a .row) (c .before .before .if1 .left) e)
+    let n = c .before .before .before .args .n in
+    c .byte-at .ensures ∙ sym (pick-true (ltb n 16) _ _ (lt-ltb n 16 (c .before .before .if1 .left)))
 
 pub window-byte-spec : {M : Type 1} → statement M
 window-byte-spec = tie.close (tie.spec returns byte-at-requires returns-2)

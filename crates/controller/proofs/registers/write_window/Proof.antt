@@ -1,11 +1,12 @@
-use mathlib.Core.List.{List}
 use mathlib.Core.Path.{sym, ap, _∙_}
+use Prim.Native.Nat.{ℕ}
+use mathlib.Core.List.{List}
+use lib.Dec.{ltb}
+use borrow.Author.Tests.{lt-ltb, le-ltb}
 use borrow.Author.Needs.{needs}
-use Rattle.contents.specs.declared.Contents.{Contents}
+use Rattle.masks.specs.PickLaws.{pick-true, pick-false}
 use Rattle.rules.specs.declared.Answer.the-variants.{Ok}
-use Rattle.controller.specs.CodeLaws.{says-only, places-one}
-use Rattle.controller.proofs.EventLaws.{row-bytes}
-use Rattle.controller.proofs.RegisterLaws.{none-written, written-in}
+use Rattle.controller.specs.Code.{placing}
 use Rattle.controller.proofs.registers.write_window.Statement.{statement}
 use Rattle.controller.proofs.registers.write_window.Tie as tie
 
@@ -13,10 +14,7 @@ with-answer-requires : tie.Need-with-answer-requires
 with-answer-requires c κs = search needs
 
 returns : tie.Need-returns
-returns c =
-    let a = c .before .before .args in
-    λ d sixteen e. says-only d _ (a .c) Ok (c .with-answer .ensures)
-    ∙ ap (λ (rows : List Contents). record { next = record { control = a .c; rows = rows }; answer = Ok }) (sym (none-written (d .rows) (a .n) (a .p) sixteen (c .before .if1 .taken) (a .v)))
+returns c = c .with-answer .ensures ∙ sym (pick-false (ltb (c .before .before .args .n) 16) _ _ (le-ltb (c .before .before .args .n) 16 (c .before .if1 .taken)))
 
 write-place-requires : tie.Need-write-place-requires
 write-place-requires c κs = search needs
@@ -27,9 +25,8 @@ with-bytes-requires c κs = search needs
 returns-2 : tie.Need-returns-2
 returns-2 c =
     let a = c .before .before .before .before .args in
-    let low = c .before .before .before .if1 .left in
-    λ d sixteen e. places-one d _ (a .c) Ok (a .n) _ (c .with-bytes .ensures) low
-    ∙ ap (λ (rows : List Contents). record { next = record { control = a .c; rows = rows }; answer = Ok }) (written-in (d .rows) (a .n) (a .p) (a .v) _ _ low (row-bytes (d .rows) (a .n) (a .row) low e) (c .before .write-place .ensures))
+    c .with-bytes .ensures ∙ ap (λ (b : List ℕ). placing (a .c) (a .n) b Ok) (c .before .write-place .ensures)
+    ∙ sym (pick-true (ltb (a .n) 16) _ _ (lt-ltb (a .n) 16 (c .before .before .before .if1 .left)))
 
 pub write-window-spec : {M : Type 1} → statement M
 write-window-spec =
