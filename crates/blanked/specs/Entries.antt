@@ -11,7 +11,7 @@ use Rattle.lines.specs.declared.FrameBytes.{FrameBytes}
 use Rattle.controller.specs.Carry.{resetState}
 use Rattle.controller.specs.Session.{Report, runOf}
 use Rattle.lines.specs.declared.Line.{Line as Reading}
-use Rattle.lines.specs.declared.Line.the-variants.{Step as step, Unread}
+use Rattle.lines.specs.declared.Line.the-variants.{Means, Unread}
 use Rattle.lines.specs.declared.Parsed.{Parsed}
 use Rattle.lines.specs.Grammar.{lineOf}
 use Rattle.report.specs.Text.{rowOf, unreadRow}
@@ -26,7 +26,7 @@ readLines t = take 999999 (textLines t)
 
 -- the step that a line is, none where it is unread
 unfoldable pub stepBeside : Reading → FrameBytes → Option Step
-stepBeside (step call) f = some (stepIn call f)
+stepBeside (Means call) f = some (stepIn call f)
 stepBeside Unread f = none
 
 abbrev pub parsedStep : Parsed → Option Step

@@ -11,7 +11,7 @@ use Rattle.controller.specs.declared.Controller.{Controller}
 use Rattle.lines.specs.declared.FrameBytes.{FrameBytes}
 use Rattle.controller.specs.Session.{Report, reportOf, stepOf, runBy, runOf}
 use Rattle.lines.specs.declared.Line.{Line as Reading}
-use Rattle.lines.specs.declared.Line.the-variants.{Step as step, Unread}
+use Rattle.lines.specs.declared.Line.the-variants.{Means, Unread}
 use Rattle.lines.specs.Grammar.{lineOf}
 use Rattle.pieces.specs.Lines.{Line}
 use Rattle.pieces.specs.Feed.{runFrom}
@@ -32,7 +32,7 @@ run-cons c e es = refl
 row-entry : (p : Player) (n : ℕ) (k : Reading) (f : FrameBytes) (os : List (Option Step)) →
     rowBy p n k f ++ rowsFrom (n + 1) (entriesFrom (playedBy p k f .controller) os) ≡ rowsFrom n (entriesFrom (p .controller) (stepBeside k f ∷ os))
 unfolding rowBy playedBy stepBeside rowsFrom entryRow stepRow
-row-entry p n (step call) f os = rw (run-cons (p .controller) (stepIn call f) (onlySteps os))
+row-entry p n (Means call) f os = rw (run-cons (p .controller) (stepIn call f) (onlySteps os))
 row-entry p n Unread f os = refl
 
 pub replay-rows : (p : Player) (n : ℕ) (ls : List Line) → runFrom play showRow p n ls ≡ rowsFrom n (entriesFrom (p .controller) (stepsAt ls))

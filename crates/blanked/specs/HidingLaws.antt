@@ -16,7 +16,7 @@ use Rattle.controller.specs.declared.Call.{Call}
 use Rattle.controller.specs.declared.Call.the-variants.{Reset, Read, Write, Sync, SyncDue, Slot, Frame, Fault, Timeout}
 use Rattle.lines.specs.declared.FrameBytes.{FrameBytes}
 use Rattle.lines.specs.declared.Line.{Line as Reading}
-use Rattle.lines.specs.declared.Line.the-variants.{Step as step, Unread}
+use Rattle.lines.specs.declared.Line.the-variants.{Means, Unread}
 use Rattle.lines.specs.Grammar.{bytesIn, lineOf}
 use Rattle.report.specs.Text.{digitOf, hexOf, hexesOf, unreadText}
 use Rattle.replaying.specs.Replay.{stepIn}
@@ -75,7 +75,7 @@ call-blank Timeout f = refl
 
 blank-by : (k : Reading) (f : FrameBytes) (s : List ℕ) → Says s (stepBeside k f) → blankBy k s ≡ lineText (hideStep (stepBeside k f))
 unfolding blankBy stepBeside
-blank-by (step call) f s h = ap (blankCall call) (h .0) ∙ call-blank call f
+blank-by (Means call) f s h = ap (blankCall call) (h .0) ∙ call-blank call f
 blank-by Unread f s h = refl
 
 -- a blanked line, from what is public of the line alone

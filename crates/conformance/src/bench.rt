@@ -149,7 +149,7 @@ fn value(high: u8, low: u8) -> u8 {
     let text = [b'R', b'\t', high, low];
     let p = lines::parse(&text);
     let line = p.line;
-    let Line::Step(call) = line else {
+    let Line::Means(call) = line else {
         return 0;
     };
     let Call::Read(a) = call else {
@@ -178,7 +178,7 @@ fn step(s: Session, h: Held) -> Session {
     let frame = p.frame;
     let c = s.controller;
     show(h);
-    let Line::Step(call) = line else {
+    let Line::Means(call) = line else {
         put(b"\tunread\n");
         return s;
     };

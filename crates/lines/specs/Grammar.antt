@@ -10,7 +10,7 @@ use Rattle.rules.specs.declared.SyncKind.the-variants.{Normal, Alarm}
 use Rattle.rules.specs.declared.Fault.the-variants.{Early, Lost, Illegal, Mismatch}
 use Rattle.controller.specs.declared.Call.the-variants.{Reset, Read, Write, Sync, SyncDue, Slot, Frame, Fault, Timeout}
 use Rattle.lines.specs.declared.Line.{Line}
-use Rattle.lines.specs.declared.Line.the-variants.{Step, Unread}
+use Rattle.lines.specs.declared.Line.the-variants.{Means, Unread}
 use Rattle.lines.specs.declared.FrameBytes.{FrameBytes}
 use Rattle.lines.specs.declared.Parsed.{Parsed}
 
@@ -43,17 +43,17 @@ plainOf l = record { line = l; frame = noFrame }
 
 -- Z reset, M sync due, Q timeout
 unfoldable pub oneOf : ℕ → Line
-oneOf letter = pick (eqb letter 90) (Step Reset) (pick (eqb letter 77) (Step SyncDue) (pick (eqb letter 81) (Step Timeout) Unread))
+oneOf letter = pick (eqb letter 90) (Means Reset) (pick (eqb letter 77) (Means SyncDue) (pick (eqb letter 81) (Means Timeout) Unread))
 
 -- S and N or A
 unfoldable pub syncOf : ℕ → Line
-syncOf kind = pick (eqb kind 78) (Step (Sync Normal)) (pick (eqb kind 65) (Step (Sync Alarm)) Unread)
+syncOf kind = pick (eqb kind 78) (Means (Sync Normal)) (pick (eqb kind 65) (Means (Sync Alarm)) Unread)
 
 -- P and E, L, I or M
 unfoldable pub faultOf : ℕ → Line
 faultOf kind =
-    pick (eqb kind 69) (Step (Fault Early))
-    (pick (eqb kind 76) (Step (Fault Lost)) (pick (eqb kind 73) (Step (Fault Illegal)) (pick (eqb kind 77) (Step (Fault Mismatch)) Unread)))
+    pick (eqb kind 69) (Means (Fault Early))
+    (pick (eqb kind 76) (Means (Fault Lost)) (pick (eqb kind 73) (Means (Fault Illegal)) (pick (eqb kind 77) (Means (Fault Mismatch)) Unread)))
 
 unfoldable pub threeOf : ℕ → ℕ → ℕ → Line
 threeOf letter tab kind = pick (eqb tab 9) (pick (eqb letter 83) (syncOf kind) (pick (eqb letter 80) (faultOf kind) Unread)) Unread
@@ -63,7 +63,7 @@ unfoldable pub fourOf : ℕ → ℕ → ℕ → ℕ → Line
 fourOf letter tab high low =
     pick (eqb tab 9)
     (pick (ltb 255 (byteOf high low)) Unread
-    (pick (eqb letter 82) (Step (Read (byteOf high low))) (pick (eqb letter 84) (Step (Slot (byteOf high low))) Unread)))
+    (pick (eqb letter 82) (Means (Read (byteOf high low))) (pick (eqb letter 84) (Means (Slot (byteOf high low))) Unread)))
     Unread
 
 -- W address value
@@ -72,7 +72,7 @@ sevenOf letter tab high low tab2 high2 low2 =
     pick (eqb letter 87)
     (pick (eqb tab 9)
     (pick (eqb tab2 9)
-    (pick (ltb 255 (byteOf high low)) Unread (pick (ltb 255 (byteOf high2 low2)) Unread (Step (Write (byteOf high low) (byteOf high2 low2)))))
+    (pick (ltb 255 (byteOf high low)) Unread (pick (ltb 255 (byteOf high2 low2)) Unread (Means (Write (byteOf high low) (byteOf high2 low2)))))
     Unread)
     Unread)
     Unread
@@ -92,7 +92,7 @@ isFrame s = pick (ltb (length s) 4) false (pick (eqb (getD s 0 0) 70) (pick (eqb
 
 -- two digits a byte, put at place i and on
 unfoldable pub decodeFrom : Bool → List ℕ → ℕ → List ℕ → Parsed
-decodeFrom good bytes i [] = record { line = Step (Frame good); frame = record { bytes = bytes; size = i } }
+decodeFrom good bytes i [] = record { line = Means (Frame good); frame = record { bytes = bytes; size = i } }
 decodeFrom good bytes i (h ∷ []) = plainOf Unread
 decodeFrom good bytes i (h ∷ l ∷ ds) =
     pick (ltb 255 (byteOf h l)) (plainOf Unread) (decodeFrom good (set bytes i (byteOf h l)) (i + 1) ds)

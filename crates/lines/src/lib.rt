@@ -7,8 +7,9 @@ use controller::Call;
 use rules::Fault;
 use rules::SyncKind;
 
+// What a line means: a call, or it is unread.
 pub enum Line {
-    Step(Call),
+    Means(Call),
     Unread,
 }
 
@@ -86,13 +87,13 @@ fn one(letter: u8) -> Line
     ensures { λ r. ⌜ r ≡ oneOf letter ⌝ }
 {
     if letter == b'Z' {
-        return Line::Step(Call::Reset);
+        return Line::Means(Call::Reset);
     }
     if letter == b'M' {
-        return Line::Step(Call::SyncDue);
+        return Line::Means(Call::SyncDue);
     }
     if letter == b'Q' {
-        return Line::Step(Call::Timeout);
+        return Line::Means(Call::Timeout);
     }
     Line::Unread
 }
@@ -102,10 +103,10 @@ fn sync_line(kind: u8) -> Line
     ensures { λ r. ⌜ r ≡ syncOf kind ⌝ }
 {
     if kind == b'N' {
-        return Line::Step(Call::Sync(SyncKind::Normal));
+        return Line::Means(Call::Sync(SyncKind::Normal));
     }
     if kind == b'A' {
-        return Line::Step(Call::Sync(SyncKind::Alarm));
+        return Line::Means(Call::Sync(SyncKind::Alarm));
     }
     Line::Unread
 }
@@ -115,16 +116,16 @@ fn fault_line(kind: u8) -> Line
     ensures { λ r. ⌜ r ≡ faultOf kind ⌝ }
 {
     if kind == b'E' {
-        return Line::Step(Call::Fault(Fault::Early));
+        return Line::Means(Call::Fault(Fault::Early));
     }
     if kind == b'L' {
-        return Line::Step(Call::Fault(Fault::Lost));
+        return Line::Means(Call::Fault(Fault::Lost));
     }
     if kind == b'I' {
-        return Line::Step(Call::Fault(Fault::Illegal));
+        return Line::Means(Call::Fault(Fault::Illegal));
     }
     if kind == b'M' {
-        return Line::Step(Call::Fault(Fault::Mismatch));
+        return Line::Means(Call::Fault(Fault::Mismatch));
     }
     Line::Unread
 }
@@ -157,10 +158,10 @@ fn four(letter: u8, tab: u8, high: u8, low: u8) -> Line
         return Line::Unread;
     }
     if letter == b'R' {
-        return Line::Step(Call::Read(v as u8));
+        return Line::Means(Call::Read(v as u8));
     }
     if letter == b'T' {
-        return Line::Step(Call::Slot(v as u8));
+        return Line::Means(Call::Slot(v as u8));
     }
     Line::Unread
 }
@@ -186,7 +187,7 @@ fn seven(letter: u8, tab: u8, high: u8, low: u8, tab2: u8, high2: u8, low2: u8) 
     if 255 < v {
         return Line::Unread;
     }
-    Line::Step(Call::Write(a as u8, v as u8))
+    Line::Means(Call::Write(a as u8, v as u8))
 }
 
 // F, tab, any byte, tab.
@@ -249,7 +250,7 @@ fn decode(good: bool, s: &[u8]) -> Parsed
         i += 1;
     }
     Parsed {
-        line: Line::Step(Call::Frame(good)),
+        line: Line::Means(Call::Frame(good)),
         frame: FrameBytes { bytes, size: i },
     }
 }

@@ -14,7 +14,7 @@ use Rattle.controller.specs.declared.Call.the-variants.{Reset}
 use Rattle.lines.specs.declared.FrameBytes.{FrameBytes}
 use Rattle.controller.specs.Session.{stepOf}
 use Rattle.controller.specs.Calls.{roomFor}
-use Rattle.lines.specs.declared.Line.the-variants.{Step}
+use Rattle.lines.specs.declared.Line.the-variants.{Means}
 use Rattle.lines.specs.declared.Parsed.{Parsed}
 use Rattle.lines.specs.Grammar.{noFrame, lineOf}
 use Rattle.report.specs.Text.{Put}
@@ -154,7 +154,7 @@ pub record AtLf (piece : List ℕ) (end : ℕ) (t : Turn) : Type 0 where
 pub record Due (piece : List ℕ) (end : ℕ) (h : Held) (t : Turn) : Type 0 where
   pub at-lf : AtLf piece end t
   pub read : isRead (t .number) ≡ true
-  pub line : lineOf (lineIn h) ≡ record { line = Step (t .call); frame = t .frame }
+  pub line : lineOf (lineIn h) ≡ record { line = Means (t .call); frame = t .frame }
 
 -- a step is due, or index taken is that of a line that doesn't end before index end
 pub record Settled (s₀ : Feed Player) (piece out₀ : List ℕ) (end : ℕ) (c : Controller) (t : Turn) (out : List ℕ) : Type 0 where

@@ -16,7 +16,7 @@ use Rattle.controller.specs.Carry.{Outcome, resetState}
 use Rattle.controller.specs.Session.{stepOf}
 use Rattle.controller.specs.Calls.{stepFor}
 use Rattle.lines.specs.declared.Line.{Line}
-use Rattle.lines.specs.declared.Line.the-variants.{Step as step, Unread}
+use Rattle.lines.specs.declared.Line.the-variants.{Means, Unread}
 use Rattle.lines.specs.Grammar.{bytesIn, lineOf}
 use Rattle.report.specs.Text.{rowOf, unreadRow, headingOf}
 use Rattle.pieces.specs.Feed.{Feed, noneHeld, numberAfter, wholeOf}
@@ -31,7 +31,7 @@ isRefused a = eqb (wordOf a) REFUSED
 
 -- what a line makes of the player: its step, counted where it is refused, or nothing, counted too
 unfoldable pub playedBy : Player → Line → FrameBytes → Player
-playedBy p (step call) f =
+playedBy p (Means call) f =
     record {
       controller = stepOf (p .controller) (stepIn call f) .next;
       tally = record {
@@ -47,7 +47,7 @@ stepRow n o = rowOf n (wordOf (o .answer)) (detailOf (o .answer) (o .sent)) (lin
 
 -- the row of a line
 unfoldable pub rowBy : Player → ℕ → Line → FrameBytes → List ℕ
-rowBy p n (step call) f = stepRow n (stepOf (p .controller) (stepIn call f))
+rowBy p n (Means call) f = stepRow n (stepOf (p .controller) (stepIn call f))
 rowBy p n Unread f = unreadRow n (linesOf (p .controller .control))
 
 unfoldable pub play : Player → ℕ → List ℕ → Player

@@ -9,7 +9,7 @@ use Rattle.masks.specs.PickLaws.{by-test}
 use Rattle.controller.specs.declared.Controller.{Controller}
 use Rattle.controller.specs.declared.Call.{Call}
 use Rattle.lines.specs.declared.Line.{Line}
-use Rattle.lines.specs.declared.Line.the-variants.{Step, Unread}
+use Rattle.lines.specs.declared.Line.the-variants.{Means, Unread}
 use Rattle.lines.specs.declared.Parsed.{Parsed}
 use Rattle.lines.specs.Grammar.{lineOf}
 use Rattle.report.specs.Text.{Put, fitting, unreadRow}
@@ -41,7 +41,7 @@ module _ {t : Turn} {p : Parsed} {next : ℕ} {out : List ℕ} {r : Turn} {out�
     opens = λ d s₀ piece out₀ end c h o a n l. open-past o a next n f;
   })
 
-  pub ends-due : isRead (t .number) ≡ true → (call : Call) → p .line ≡ Step call → r ≡ awaits t call (p .frame) → out′ ≡ out → Ends t p next out r out′
+  pub ends-due : isRead (t .number) ≡ true → (call : Call) → p .line ≡ Means call → r ≡ awaits t call (p .frame) → out′ ≡ out → Ends t p next out r out′
   ends-due f call k e q = rw (e, q) (record {
     stays = λ d. refl;
     passed = λ d. true-false refl d;

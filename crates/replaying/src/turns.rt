@@ -124,7 +124,7 @@ fn line_ended(t: Turn, p: Parsed, next: usize, out: &mut [u8]) -> Turn
     }
     let line = p.line;
     match line {
-        Line::Step(call) => {
+        Line::Means(call) => {
             let frame = p.frame;
             awaiting(t, call, frame)
         }
