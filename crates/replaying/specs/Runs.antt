@@ -12,7 +12,7 @@ use Rattle.replaying.specs.declared.Player.{Player}
 use Rattle.replaying.specs.declared.Session.{Session}
 use Rattle.replaying.specs.Replay.{play, showRow, startOf, replayOf}
 use Rattle.replaying.specs.Session.{feedOf, FeedRuns}
-use Rattle.replaying.specs.WholeLaws.{any-pieces}
+use Rattle.replaying.specs.WholeLaws.{replay-pieces}
 use Rattle.replaying.specs.RunLaws.{runs-whole, whole-run}
 
 -- every text has its run from every session
@@ -26,4 +26,4 @@ pub runs-replay : (s : Session) (text shown out : List ℕ) (n : ℕ) (out′ : 
 runs-replay s text shown out n out′ w h e runs =
     ap₂ (λ (x y : List ℕ). x ++ y) (text-written w ∙ fits out 0 headingOf h)
     (runs-whole s text shown runs ∙ ap (λ (f : Feed Player). fedWhole play showRow f text) e)
-    ∙ any-pieces (text ∷ []) ∙ ap replayOf (append-nil text)
+    ∙ replay-pieces (text ∷ []) ∙ ap replayOf (append-nil text)

@@ -27,6 +27,6 @@ unfolding showRow
 over-row s n e l m p q = ap (λ (x : Parsed). rowBy s n (x .line) (x .frame)) (over-line l m p q)
 
 -- the heading, the rows of each piece one behind the other, and the row of the last line
-pub any-pieces : (cs : List (List ℕ)) → headingOf ++ streamOf play showRow startOf cs ≡ replayOf (joined cs)
+pub replay-pieces : (cs : List (List ℕ)) → headingOf ++ streamOf play showRow startOf cs ≡ replayOf (joined cs)
 unfolding replayOf
-any-pieces cs = ap (λ (l : List ℕ). headingOf ++ l) (pieces.any-pieces play showRow over-play over-row freshPlayer cs)
+replay-pieces cs = ap (λ (l : List ℕ). headingOf ++ l) (pieces.any-pieces play showRow over-play over-row freshPlayer cs)
