@@ -17,6 +17,19 @@ pub zeros-zeros : (xs : List ℕ) → zeros (zeros xs) ≡ zeros xs
 zeros-zeros [] = refl
 zeros-zeros (x ∷ xs) = ap (λ (t : List ℕ). 0 ∷ t) (zeros-zeros xs)
 
+zeros-from : (i k : ℕ) (b : List ℕ) → zeros (bytesFrom i k b) ≡ replicate k 0
+unfolding bytesFrom
+zeros-from i zero b = refl
+zeros-from i (suc k) b = ap (λ (t : List ℕ). 0 ∷ t) (zeros-from (suc i) k b)
+
+-- what is public of a sent frame is in its head
+unfoldable pub headFrame : Head → List ℕ
+headFrame h = h .ident ∷ (h .len ∷ replicate (min 12 (h .len)) 0)
+
+pub frame-head : (b : Contents) → hideData (frameOf b) ≡ headFrame (headOf b)
+unfolding frameOf headFrame
+frame-head b = ap (λ (t : List ℕ). headOf b .ident ∷ (headOf b .len ∷ t)) (zeros-from 2 (min 12 (headOf b .len)) (b .bytes))
+
 pub hide-hide : (f : List ℕ) → hideData (hideData f) ≡ hideData f
 hide-hide [] = refl
 hide-hide (i ∷ []) = refl
@@ -59,19 +72,6 @@ head-data b j v = go (b .bytes)
 pub head-store : (b : Contents) (i l : ℕ) (d : List ℕ) → headOf (storeFrame b i l d) ≡ record { ident = i; len = cut l }
 unfolding storeFrame
 head-store b i l d = refl
-
-zeros-from : (i k : ℕ) (b : List ℕ) → zeros (bytesFrom i k b) ≡ replicate k 0
-unfolding bytesFrom
-zeros-from i zero b = refl
-zeros-from i (suc k) b = ap (λ (t : List ℕ). 0 ∷ t) (zeros-from (suc i) k b)
-
--- what is public of a sent frame is in its head
-unfoldable pub headFrame : Head → List ℕ
-headFrame h = h .ident ∷ (h .len ∷ replicate (min 12 (h .len)) 0)
-
-pub frame-head : (b : Contents) → hideData (frameOf b) ≡ headFrame (headOf b)
-unfolding frameOf headFrame
-frame-head b = ap (λ (t : List ℕ). headOf b .ident ∷ (headOf b .len ∷ t)) (zeros-from 2 (min 12 (headOf b .len)) (b .bytes))
 
 -- ---- the room of a sent frame
 
