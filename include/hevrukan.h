@@ -65,7 +65,7 @@ enum hevrukan_answer_word {
     HEVRUKAN_STORED = 2,      // the buffer's number
     HEVRUKAN_QUEUED = 3,      // the number of the FIFO's buffer
     HEVRUKAN_HELDOFF = 4,     // the number of the locked buffer
-    HEVRUKAN_HELDBACK = 5,    // the number of the locked buffer; no session from reset gets it
+    // 5 stays unused: it was heldback, which no session from reset ever got
     HEVRUKAN_SENT = 6,        // so many bytes of the room are the frame
     HEVRUKAN_PULSE = 7,       // HEVRUKAN_NORMAL or HEVRUKAN_ALARM
     HEVRUKAN_REFUSED = 8,     // document 01's refusal number, 1 to 12
@@ -235,7 +235,7 @@ static inline uint32_t hevrukan_sync_due(struct hevrukan *c) {
     return hevrukan_plain_step(c, HEVRUKAN_KIND_SYNC_DUE, 0, 0);
 }
 
-// The slot of an identifier: sent, the frame's bytes standing first in the room, or notsent, ignored, heldback; refused (12) if
+// The slot of an identifier: sent, the frame's bytes standing first in the room, or notsent, ignored; refused (12) if
 // the room has fewer than HEVRUKAN_ROOM bytes. A null room is one of no bytes.
 static inline uint32_t hevrukan_slot(struct hevrukan *c, uint32_t identifier, uint8_t *room, size_t room_size) {
     const uint8_t no_frame[1] = {0};
@@ -286,7 +286,6 @@ static inline const char *hevrukan_word_text(uint32_t word) {
     case HEVRUKAN_STORED: return "stored";
     case HEVRUKAN_QUEUED: return "queued";
     case HEVRUKAN_HELDOFF: return "heldoff";
-    case HEVRUKAN_HELDBACK: return "heldback";
     case HEVRUKAN_SENT: return "sent";
     case HEVRUKAN_PULSE: return "pulse";
     case HEVRUKAN_REFUSED: return "refused";

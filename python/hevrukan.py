@@ -113,8 +113,10 @@ REFUSALS = {
 
 # The library's numbers: the kinds of step and the words of an answer.
 _READ, _WRITE, _SYNC, _SYNC_DUE, _SLOT, _FRAME, _FAULT, _TIMEOUT = range(1, 9)
-_WORDS = ("ok read stored queued heldoff heldback sent pulse refused overrun unmatched badframe ignored woke notsent").split()
-_WITH_DETAIL = {"read", "stored", "queued", "heldoff", "heldback", "sent", "pulse"}
+# 5 is unused.
+_WORDS = dict(enumerate("ok read stored queued heldoff".split()))
+_WORDS.update(enumerate("sent pulse refused overrun unmatched badframe ignored woke notsent".split(), 6))
+_WITH_DETAIL = {"read", "stored", "queued", "heldoff", "sent", "pulse"}
 _UNKNOWN, _WRONG_SIZE = 64, 65
 _LARGEST = 0xFFFFFFFF
 
@@ -122,7 +124,7 @@ _LARGEST = 0xFFFFFFFF
 class Answer(typing.NamedTuple):
     """What a step is answered: document 01's word, and its detail.
 
-    The detail is the buffer's number (stored, queued, heldoff, heldback), the frame's bytes (sent), NORMAL_PULSE or ALARM_PULSE
+    The detail is the buffer's number (stored, queued, heldoff), the frame's bytes (sent), NORMAL_PULSE or ALARM_PULSE
     (pulse), and None of the others.
     """
 
@@ -215,7 +217,7 @@ class Controller:
         return self._step(_SYNC_DUE, 0, 0, "sync_due()")
 
     def slot(self, identifier, room=14):
-        """The slot of an identifier: sent with the frame's bytes, notsent, ignored or heldback.
+        """The slot of an identifier: sent with the frame's bytes, notsent or ignored.
 
         room is how many bytes are lent for the frame. Refused 12 if they are fewer than 14.
         """

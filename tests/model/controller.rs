@@ -92,7 +92,6 @@ pub enum Answer {
     Stored(u8),
     Queued(u8),
     HeldOff(u8),
-    HeldBack(u8),
     /// How many bytes of the room the sent frame fills.
     Sent(u8),
     Pulse(Pulse),
@@ -754,10 +753,6 @@ impl Controller {
             return Answer::NotSent;
         }
         let buffer = carrying.ilog2() as u8;
-        // No list of steps from reset gets here: locking disarms, and a sync arms no locked buffer.
-        if self.locked & bit(buffer) != 0 {
-            return Answer::HeldBack(buffer);
-        }
         self.iflg |= bit(buffer);
         self.armed &= !bit(buffer);
         self.last_identifier = slot;

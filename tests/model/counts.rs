@@ -3,7 +3,7 @@
 use crate::call::{Call, FRAME, ROOM};
 use crate::cases::{can_be_written, CASES};
 use crate::controller::{Answer, Step};
-use crate::library::{number, SIZE, WORDS};
+use crate::library::{number, SIZE, UNUSED, WORDS};
 use crate::pair::Taken;
 
 const REGISTERS: usize = 0x60;
@@ -78,7 +78,9 @@ impl Counts {
                     .map(|(n, &count)| (name, label(n), count)),
             );
         };
-        group("answers", &self.words, &|n| WORDS[n].to_string());
+        let used: Vec<usize> = (0..WORDS.len()).filter(|&n| WORDS[n] != UNUSED).collect();
+        let words: Vec<u64> = used.iter().map(|&n| self.words[n]).collect();
+        group("answers", &words, &|n| WORDS[used[n]].to_string());
         group("refusals", &self.refusals, &|n| (n + 1).to_string());
         group("registers read", &self.read, &|n| format!("${n:02X}"));
         let writable: Vec<usize> = (0..REGISTERS).filter(|&n| can_be_written(n)).collect();

@@ -13,8 +13,7 @@ mod pair;
 mod text;
 
 use call::{Call, FRAME, ROOM};
-use controller::bits::{CFG, IENA, LOCK};
-use controller::{Pulse, Step};
+use controller::Step;
 use counts::Counts;
 use library::SIZE;
 use make::{Kind, Random};
@@ -109,18 +108,6 @@ impl Session<'_> {
         }
         Ok(())
     }
-
-    /// "heldback", which no session reaches: a locked buffer is armed by hand, then each identifier gets its slot.
-    fn hold_back(&mut self) -> Result<(), Difference> {
-        self.take(&Step::Sync(Pulse::Normal))?;
-        self.take(&Step::Write(0x5F, CFG | IENA | LOCK))?;
-        self.pair.arm_locked();
-        let mut slots = self.pair.model.identifiers;
-        slots.sort();
-        slots
-            .iter()
-            .try_for_each(|&slot| self.take(&Step::Slot(slot)))
-    }
 }
 
 /// Where a run stands: the session's number and what was made for it.
@@ -174,8 +161,7 @@ fn run_lines(session: &mut Session, text: &[u8]) -> Result<(), Difference> {
             session.take(&step)?;
         }
     }
-    session.read_all()?;
-    session.hold_back()
+    session.read_all()
 }
 
 fn show(seed: u64, origin: &Origin, difference: &Difference, calls: &[Call]) {

@@ -125,10 +125,13 @@ extern "C" {
     fn hevrukan_lines(record: *const Record, size: usize) -> u32;
 }
 
+/// A number that no answer has.
+pub const UNUSED: &str = "unused";
+
 #[rustfmt::skip]
 /// The answers' words in the order of their numbers.
 pub const WORDS: [&str; 15] = [
-    "ok", "read", "stored", "queued", "heldoff", "heldback", "sent", "pulse",
+    "ok", "read", "stored", "queued", "heldoff", UNUSED, "sent", "pulse",
     "refused", "overrun", "unmatched", "badframe", "ignored", "woke", "notsent",
 ];
 
@@ -184,7 +187,6 @@ pub fn number(answer: Answer) -> u32 {
         Answer::Stored(buffer) => (2, buffer),
         Answer::Queued(buffer) => (3, buffer),
         Answer::HeldOff(buffer) => (4, buffer),
-        Answer::HeldBack(buffer) => (5, buffer),
         Answer::Sent(count) => (6, count),
         Answer::Pulse(Pulse::Normal) => (7, 0),
         Answer::Pulse(Pulse::Alarm) => (7, 1),
@@ -252,12 +254,6 @@ impl Library {
     pub fn record(&self) -> Record {
         // SAFETY: the bytes are those of a record, and any bytes are one.
         unsafe { self.bytes[GUARD..].as_ptr().cast::<Record>().read() }
-    }
-
-    /// Changes the armed buffers by hand.
-    pub fn arm(&mut self, armed: u16) {
-        // SAFETY: as in `record`, and the place is aligned to 8.
-        unsafe { (*self.place()).control.buffers.armed = armed }
     }
 
     pub fn reset(&mut self, size: usize) -> u32 {

@@ -226,10 +226,4 @@ impl Pair {
         let identifiers = record.rows.map(|row| row[0]);
         same("the identifiers", identifiers, self.model.identifiers)
     }
-
-    /// A state that no session reaches: the locked transmit buffers armed.
-    pub fn arm_locked(&mut self) {
-        self.model.armed |= self.model.locked & self.model.transmit;
-        self.library.arm(self.model.armed);
-    }
 }

@@ -120,7 +120,6 @@ fn put_row(out: &mut Vec<u8>, number: &[u8], answer: Option<Answer>, room: &[u8]
         Some(Answer::Stored(buffer)) => put_detail(out, b"\tstored\t", &[buffer]),
         Some(Answer::Queued(buffer)) => put_detail(out, b"\tqueued\t", &[buffer]),
         Some(Answer::HeldOff(buffer)) => put_detail(out, b"\theldoff\t", &[buffer]),
-        Some(Answer::HeldBack(buffer)) => put_detail(out, b"\theldback\t", &[buffer]),
         Some(Answer::Sent(count)) => put_detail(out, b"\tsent\t", &room[..count as usize]),
         Some(Answer::Refused(number)) => put_detail(out, b"\trefused\t", &[number]),
     }

@@ -11,7 +11,7 @@ use Rattle.masks.specs.Laws.{bit-mask, same-mask}
 use Rattle.contents.specs.Bytes.{Head}
 use Rattle.rules.specs.declared.SyncKind.{SyncKind}
 use Rattle.rules.specs.declared.Answer.{Answer}
-use Rattle.rules.specs.declared.Answer.the-variants.{Stored, Queued, HeldOff, HeldBack, Overrun, Unmatched, BadFrame, Ignored, Woke, NotSent}
+use Rattle.rules.specs.declared.Answer.the-variants.{Stored, Queued, HeldOff, Overrun, Unmatched, BadFrame, Ignored, Woke, NotSent}
 use Rattle.rules.specs.declared.Control.{Control}
 use Rattle.rules.specs.Plan.{store, say, send, Plan, plain}
 use Rattle.rules.specs.Rules.{onBus, wakes, sleepsOn}
@@ -80,7 +80,7 @@ unfolding slotFor sendFrom
 slotFor-simple c i n =
     pick-keeps Simple (not (c .mode .synced)) (λ t. says c Ignored)
     (λ t. pick-keeps Simple (ltb (c .mode .last) i && ltb n 16)
-    (λ u. pick-keeps Simple (isLocked c n) (λ x. says c (HeldBack n)) (λ x. sends _ n)) (λ u. says c NotSent))
+    (λ u. sends _ n) (λ u. says c NotSent))
 
 pub frame-simple : (c : Control) (good : Bool) (i n : ℕ) → Simple (wakes c (judged c good i n))
 frame-simple c good i n = bus-simple c _ _ (says (woken c) Woke) (judged-simple c good i n)

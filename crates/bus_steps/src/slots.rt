@@ -1,10 +1,11 @@
 // Slots: which buffer is sent in one.
 ghost use mathlib.Core.Path.{_≡_};
-ghost use Rattle.rules.specs.Bus.{sentFrom, sendFrom, slotFor};
+ghost use Rattle.masks.specs.Pick.{pick};
+ghost use Rattle.rules.specs.Bus.{sentFrom, slotFor};
 ghost use Rattle.rules.specs.Record.{withMode, withLast};
+ghost use Rattle.rules.specs.declared.Answer.the-variants.{Ignored, NotSent};
 ghost use Rattle.bus_steps.specs.Code.{rulingOf};
 use crate::ruling;
-use kinds::is_locked;
 use masks::NONE;
 use rules::Answer;
 use rules::Control;
@@ -24,28 +25,26 @@ fn sent_from(c: Control, i: u8, n: u8) -> Control
     next
 }
 
-// The frame of buffer n, held back if the buffer was locked after the sync that armed it.
-fn send_from(c: Control, i: u8, n: u8) -> Ruling
-    ensures { λ r. ⌜ r ≡ rulingOf (sendFrom c i n) ⌝ }
+// The answer to a slot of an awake module that sends nothing.
+fn unsent(c: Control) -> Answer
+    ensures { λ r. ⌜ r ≡ pick (c .mode .synced) NotSent Ignored ⌝ }
 {
-    if is_locked(c, n) {
-        return ruling(c, Answer::HeldBack(n));
+    if c.mode.synced {
+        return Answer::NotSent;
     }
-    Ruling {
-        next: sent_from(c, i, n),
-        verdict: Verdict::Send(n),
-    }
+    Answer::Ignored
 }
 
-// Slot i of an awake module. Its buffer is n, NONE if there is none.
+// Slot i of an awake module. Its buffer is n, NONE if there is none. Where nothing is sent there is one way to the return, whatever the
+// answer: with a return for each, the compiler copied the state twice.
 pub(crate) fn slot_for(c: Control, i: u8, n: u8) -> Ruling
     ensures { λ r. ⌜ r ≡ rulingOf (slotFor c i n) ⌝ }
 {
-    if !c.mode.synced {
-        return ruling(c, Answer::Ignored);
+    if c.mode.synced && c.mode.last < i && n < NONE {
+        return Ruling {
+            next: sent_from(c, i, n),
+            verdict: Verdict::Send(n),
+        };
     }
-    if c.mode.last < i && n < NONE {
-        return send_from(c, i, n);
-    }
-    ruling(c, Answer::NotSent)
+    ruling(c, unsent(c))
 }

@@ -1,5 +1,5 @@
 // The bench. A line of the input is a session's heading (#), a step as the replay text writes it, with spaces for tabs, or a remark
-// (/); or it says how large a slot's room is from now on (room), or who holds the transmit window (holder): a record changed by hand.
+// (/); or it says how large a slot's room is from now on (room).
 use controller::Call;
 use controller::Controller;
 use controller::Done;
@@ -206,11 +206,6 @@ fn line(s: Session, h: Held) -> Session {
         b'r' => {
             let room = value(bytes[5], bytes[6]);
             next.room = room;
-            next
-        }
-        b'h' => {
-            let holder = value(bytes[7], bytes[8]);
-            next.controller.control.transmit.holder = holder;
             next
         }
         _ => step(s, h),

@@ -7,7 +7,7 @@ use mathlib.Core.Bool.{true}
 use Rattle.rules.specs.Kinds.{isArmed, isLocked}
 use Rattle.rules.specs.Reads.{bufctl}
 use Rattle.rules.specs.Steps.{Step, hide}
-use Rattle.rules.specs.Untouched.{isBusEvent, NextFree, rolesOf}
+use Rattle.rules.specs.Untouched.{isBusEvent, TargetsFree, rolesOf}
 use Rattle.rules.specs.UntouchedLaws.{decide-spares}
 use Rattle.controller.specs.declared.Controller.{Controller}
 use Rattle.controller.specs.Carry.{rowAt, heads, carry}
@@ -22,7 +22,7 @@ pub record Untouched (c : Controller) (e : Step) (n : ℕ) : Type 0 where
   -- no bus event changes a holder or contender at all
   pub same-roles : rolesOf (stepOf c e .next .control) ≡ rolesOf (c .control)
 
-pub locked-untouched : (c : Controller) (e : Step) (n : ℕ) → NextFree (c .control) → isBusEvent e ≡ true → n < 16 →
+pub locked-untouched : (c : Controller) (e : Step) (n : ℕ) → TargetsFree (c .control) → isBusEvent e ≡ true → n < 16 →
     isLocked (c .control) n ≡ true → Untouched c e n
 unfolding stepOf carry
 locked-untouched c e n free b small locked =

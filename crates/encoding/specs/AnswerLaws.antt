@@ -7,14 +7,14 @@ use lib.Dec.{eqb}
 use Rattle.masks.specs.Pick.{pick}
 use Rattle.rules.specs.declared.SyncKind.the-variants.{Normal, Alarm}
 use Rattle.rules.specs.declared.Answer.{Answer}
-use Rattle.rules.specs.declared.Answer.the-variants.{Ok, Value, Stored, Queued, HeldOff, HeldBack, Sent, Pulse, Refused, Overrun, Unmatched, BadFrame, Ignored, Woke, NotSent}
+use Rattle.rules.specs.declared.Answer.the-variants.{Ok, Value, Stored, Queued, HeldOff, Sent, Pulse, Refused, Overrun, Unmatched, BadFrame, Ignored, Woke, NotSent}
 use Rattle.rules.specs.Answers.{wordOf, givenOf, numberIn}
 
--- the answer with word w and detail n
+-- the answer with word w and detail n; any for 5, which is unused
 pub answerBy : ℕ → ℕ → Answer
 answerBy w n =
     getD
-    (Ok ∷ Value n ∷ Stored n ∷ Queued n ∷ HeldOff n ∷ HeldBack n ∷ Sent n ∷ Pulse (pick (eqb n 0) Normal Alarm) ∷ Refused n
+    (Ok ∷ Value n ∷ Stored n ∷ Queued n ∷ HeldOff n ∷ Ok ∷ Sent n ∷ Pulse (pick (eqb n 0) Normal Alarm) ∷ Refused n
     ∷ Overrun ∷ Unmatched ∷ BadFrame ∷ Ignored ∷ Woke ∷ NotSent ∷ [])
     w Ok
 
@@ -25,7 +25,6 @@ by-parts (Value v) = refl
 by-parts (Stored n) = refl
 by-parts (Queued n) = refl
 by-parts (HeldOff n) = refl
-by-parts (HeldBack n) = refl
 by-parts (Sent k) = refl
 by-parts (Pulse Normal) = refl
 by-parts (Pulse Alarm) = refl

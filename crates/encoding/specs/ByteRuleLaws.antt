@@ -332,8 +332,7 @@ slot-bytes c hs i p =
     let n = highest (offers c hs i) 16 in
     pick-keeps PlanBytes (not (c .mode .synced)) (λ e. plain-bytes _ _ p (omega arith))
     (λ e. pick-keeps PlanBytes (ltb (c .mode .last) i && ltb n 16)
-    (λ f. pick-keeps PlanBytes (isLocked c n) (λ t. plain-bytes _ _ p (highest-byte (offers c hs i) 16 (omega arith)))
-    (λ t. record { state = p; put = no-bytes; said = omega arith }))
+    (λ f. record { state = p; put = no-bytes; said = omega arith })
     (λ f. plain-bytes _ _ p (omega arith)))
 
 bus-bytes : (c : Control) (x y : Plan) → InBytes c → PlanBytes x → PlanBytes y → PlanBytes (onBus c x y)

@@ -5,7 +5,7 @@ ghost use Rattle.encoding.specs.Answers.{numberOf};
 use rules::Answer;
 use rules::SyncKind;
 
-// The number of an answer's word.
+// The number of an answer's word. 5 is unused.
 fn word(a: Answer) -> u8
     ensures { λ r. ⌜ r ≡ wordOf a ⌝ }
 {
@@ -15,7 +15,6 @@ fn word(a: Answer) -> u8
         Answer::Stored(_) => 2,
         Answer::Queued(_) => 3,
         Answer::HeldOff(_) => 4,
-        Answer::HeldBack(_) => 5,
         Answer::Sent(_) => 6,
         Answer::Pulse(_) => 7,
         Answer::Refused(_) => 8,
@@ -46,7 +45,6 @@ fn detail(a: Answer) -> u8
         Answer::Stored(n) => n,
         Answer::Queued(n) => n,
         Answer::HeldOff(n) => n,
-        Answer::HeldBack(n) => n,
         Answer::Sent(k) => k,
         Answer::Pulse(k) => sync_number(k),
         Answer::Refused(r) => r,

@@ -180,7 +180,7 @@ module _ (w : View) (s : Sound w) where
         overruns = λ i o. same-arming w a (raiseLast c i .mode) (c .config) (raiseGisr c OVRNIF .events) refl;
         stores = λ i l o y b u. stores-arming i l b;
         queues = λ i l o y z n room. queues-arming i l o room;
-        sends = λ i n o e b u. sends-arming i n b;
+        sends = λ i n o e b. sends-arming i n b;
       }
 
 pub arming-reset : ArmingSound resetView

@@ -210,5 +210,5 @@ module _ (w : View) (s : Sound w) where
         overruns = λ i t. sound-of now;
         stores = λ i l t y h u. sound-of (flag-set now (lookup (w .control) (w .heads) i) (lookup-outside i h));
         queues = λ i l t y z u f. sound-of now;
-        sends = λ i n t e h u. sound-of (flag-set now n (sent-outside i n e h));
+        sends = λ i n t e h. sound-of (flag-set now n (sent-outside i n e h));
       }

@@ -213,7 +213,7 @@ module _ (w : View) (s : Sound w) where
         overruns = λ i o. same (raiseGisr (raiseLast c i) OVRNIF) refl;
         stores = λ i l o y b u. stores-contents i l b;
         queues = λ i l o y z n room. queues-contents i l n room;
-        sends = λ i n o e b u. sends-contents i n e b;
+        sends = λ i n o e b. sends-contents i n e b;
       }
 
 -- blank heads have length 0

@@ -160,7 +160,7 @@ fifo-kept w s =
       overruns = λ i e. r;
       stores = λ i l e f h k. r;
       queues = λ i l e f z m room. add-ring (c .config .fsiz) (c .fifo) r room;
-      sends = λ i n e f h k. r;
+      sends = λ i n e f h. r;
     }
 
 pub fifo-reset : FifoSound resetView

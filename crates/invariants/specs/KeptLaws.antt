@@ -105,5 +105,5 @@ pub record Kept (P : View → Type 0) (w : View) : Type 0 where
       16 ≤ lookup (w .control) (w .heads) i → w .control .fifo .count < w .control .config .fsiz →
       P (put w (withFifo (raiseLast (w .control) i) (withEntry (w .control))) (w .control .fifo .next) i (cut l))
   -- a frame sent from buffer n, at its slot i
-  pub sends : (i n : ℕ) → w .control .mode .init ≡ false → n ≡ highest (offers (w .control) (w .heads) i) 16 → n < 16 → isLocked (w .control) n ≡ false →
+  pub sends : (i n : ℕ) → w .control .mode .init ≡ false → n ≡ highest (offers (w .control) (w .heads) i) 16 → n < 16 →
       P (at w (withMode (sentFrom (w .control) n) (withLast (w .control .mode) i)))

@@ -185,7 +185,7 @@ locks-kept w s =
       overruns = λ i e. locks-by r t;
       stores = λ i l e f h k. locks-by r t;
       queues = λ i l e f z m h. locks-by r t;
-      sends = λ i n e f h k. locks-by r t;
+      sends = λ i n e f h. locks-by r t;
     }
 
 pub locks-reset : LocksSound resetView

@@ -135,5 +135,5 @@ module _ (w : View) (s : Sound w) where
         overruns = λ i t. awake t (now .lawful t) (now .asleep) (raised OVRNIF (remembered now));
         stores = λ i l t y h u. awake t (now .lawful t) (now .asleep) (remembered now);
         queues = λ i l t y z u f. awake t (now .lawful t) (now .asleep) (remembered now);
-        sends = λ i n t e h u. awake t (now .lawful t) (now .asleep) (remembered now);
+        sends = λ i n t e h. awake t (now .lawful t) (now .asleep) (remembered now);
       }

@@ -154,5 +154,5 @@ module _ (w : View) (s : Sound w) where
         overruns = λ i t. raised OVRNIF refl;
         stores = λ i l t y h u. now;
         queues = λ i l t y z u f. now;
-        sends = λ i n t e h u. now;
+        sends = λ i n t e h. now;
       }

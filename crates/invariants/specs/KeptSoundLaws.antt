@@ -52,7 +52,7 @@ kept-with Q R P f w qs rs =
       overruns = λ i o. f _ (qs .overruns i o) (rs .overruns i o);
       stores = λ i z o y b u. f _ (qs .stores i z o y b u) (rs .stores i z o y b u);
       queues = λ i z o y e n h. f _ (qs .queues i z o y e n h) (rs .queues i z o y e n h);
-      sends = λ i n o e b u. f _ (qs .sends i n o e b u) (rs .sends i n o e b u);
+      sends = λ i n o e b. f _ (qs .sends i n o e b) (rs .sends i n o e b);
     }
 
 abbrev Both : (View → Type 0) → (View → Type 0) → View → Type 0

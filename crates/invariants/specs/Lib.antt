@@ -1,6 +1,7 @@
 -- definitions
 pub mod Sound
 pub mod Reads
+pub mod Slots
 -- final statements
 pub mod Reachable
 -- nothing to believe: laws, and the code's own definitions
@@ -27,3 +28,4 @@ pub mod KeptContentsLaws
 pub mod KeptSoundLaws
 pub mod StepLaws
 pub mod ReachableLaws
+pub mod SlotLaws

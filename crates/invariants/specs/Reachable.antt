@@ -2,7 +2,7 @@
 -- document 01 says of flags and reserved bits.
 use mathlib.Core.Path.{_≡_, refl, ap, _∙_}
 use Prim.Native.Nat.{ℕ, _<_}
-use mathlib.Core.Bool.{true, _||_}
+use mathlib.Core.Bool.{true, false, _||_}
 use mathlib.Core.List.{List}
 use borrow.Author.Tests.{eq-eqb}
 use lib.Dec.{eqb, ltb}
@@ -12,25 +12,30 @@ use Rattle.masks.specs.PickLaws.{pick-true}
 use Rattle.masks.specs.Bits.{bitOf, someOf}
 use Rattle.locks.specs.Pair.{hasContender}
 use Rattle.rules.specs.declared.Answer.the-variants.{Value}
+use Rattle.contents.specs.Bytes.{Head}
+use Rattle.rules.specs.declared.Control.{Control}
 use Rattle.rules.specs.Registers.{Region, elsewhere, regionOf, has, withFlag, lowMap, registerAt, RCVFIF, RXIF, TXIF, LOCKIF}
 use Rattle.rules.specs.Kinds.{isLocked, lockif}
-use Rattle.rules.specs.Flags.{receivePending, transmitPending, rcvfif, rxif, txif, risr, gisr}
+use Rattle.rules.specs.Flags.{linesOf, receivePending, transmitPending, rcvfif, rxif, txif, risr, gisr}
 use Rattle.rules.specs.Reads.{valueOf, replyIn, readReply}
 use Rattle.rules.specs.Refusals.{refusal}
+use Rattle.rules.specs.Bus.{slotted}
 use Rattle.rules.specs.Plan.{Plan}
 use Rattle.rules.specs.Steps.{Step, read}
 use Rattle.rules.specs.Rules.{act, decide}
 use Rattle.rules.specs.Untouched.{isBusEvent}
 use Rattle.controller.specs.Carry.{resetState, heads, answerOf, carry}
-use Rattle.controller.specs.Session.{stepOf, endOf}
+use Rattle.controller.specs.Session.{runBy, endBy, stepOf, runOf, endOf}
 use Rattle.controller.specs.View.{viewOf}
 use Rattle.controller.specs.Untouched.{Untouched, locked-untouched}
 use Rattle.invariants.specs.Sound.{RISR, GISR, RegistersSound, Sound}
 use Rattle.invariants.specs.FlagLaws.{bit-absent-in, flag-own, flag-other}
 use Rattle.invariants.specs.Reads.{reservedBits, after, reads}
+use Rattle.invariants.specs.Slots.{slottedWith, decideWith, headsAfter, offered}
+use Rattle.invariants.specs.SlotLaws.{slot-unlocked, slot-same, same-run, same-end}
 use Rattle.invariants.specs.ReservedBitLaws.{reserved-by}
 use Rattle.invariants.specs.KeptSoundLaws.{reset-sound}
-use Rattle.invariants.specs.ReachableLaws.{session-sound, next-free}
+use Rattle.invariants.specs.ReachableLaws.{session-sound, targets-free}
 
 -- the record after any session from reset is sound
 pub reachable-sound : (es : List Step) → Sound (viewOf (endOf resetState es))
@@ -41,7 +46,24 @@ reachable-sound es = session-sound resetState es reset-sound
 pub locked-stays : (es : List Step) (e : Step) (n : ℕ) → isBusEvent e ≡ true → n < 16 →
     isLocked (endOf resetState es .control) n ≡ true → Untouched (endOf resetState es) e n
 locked-stays es e n b small locked =
-    locked-untouched (endOf resetState es) e n (next-free (viewOf (endOf resetState es)) (reachable-sound es)) b small locked
+    locked-untouched (endOf resetState es) e n (targets-free (viewOf (endOf resetState es)) (reachable-sound es)) b small locked
+
+-- ---- slots, after any session from reset
+
+-- the highest armed buffer that carries a slot's identifier is not locked: locking a transmit buffer disarms it
+pub offered-unlocked : (es : List Step) (i : ℕ) → offered es i < 16 → isLocked (after es) (offered es i) ≡ false
+offered-unlocked es i = slot-unlocked (viewOf (endOf resetState es)) (reachable-sound es) i
+
+-- so the slot's rule with any plan for a locked buffer is the rule without it, on every record that a session reaches
+pub locked-never-offered : (es : List Step) (p : ℕ → Plan) (i : ℕ) → slottedWith p (after es) (headsAfter es) i ≡ slotted (after es) (headsAfter es) i
+locked-never-offered es p i = slot-same p (viewOf (endOf resetState es)) (reachable-sound es) i
+
+-- W10: no session under document 01's rules, which answered "heldback" there, ever got that answer: with any plan in its place every session
+-- from reset reports the same, and ends in the same record, as under the rules that W10 leaves
+pub same-sessions : (p : Control → List Head → ℕ → Plan) (es : List Step) →
+    (runBy (decideWith p) linesOf resetState es ≡ runOf resetState es) × (endBy (decideWith p) resetState es ≡ endOf resetState es)
+unfolding runOf endOf resetState
+same-sessions p es = (same-run p resetState reset-sound es, same-end p resetState reset-sound es)
 
 -- ---- what registers read, after any session from reset
 

@@ -13,7 +13,7 @@ use Rattle.rules.specs.declared.Control.{Control}
 use Rattle.rules.specs.Kinds.{isTransmit, isReceive, isLocked}
 use Rattle.rules.specs.Steps.{Step, hide}
 use Rattle.rules.specs.Rules.{decide}
-use Rattle.rules.specs.Untouched.{NextFree}
+use Rattle.rules.specs.Untouched.{TargetsFree}
 use Rattle.controller.specs.declared.Controller.{Controller}
 use Rattle.controller.specs.Session.{stepBy, endBy}
 use Rattle.controller.specs.View.{View, viewOf}
@@ -60,9 +60,9 @@ not-oldest w s room true e =
     by-test (ltb (w .control .fifo .oldest + w .control .fifo .count) (w .control .config .fsiz))
     (λ t. let h = f .next-low (ltb-true _ _ t) in omega arith) (λ t. let h = f .next-high (ltb-false _ _ t) in omega arith))
 
-pub next-free : (w : View) → Sound w → NextFree (w .control)
+pub targets-free : (w : View) → Sound w → TargetsFree (w .control)
 unfolding isLocked
-next-free w s =
+targets-free w s =
     record {
       next-free = λ normal room.
           let f = s .fifo in

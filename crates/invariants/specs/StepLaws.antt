@@ -273,8 +273,7 @@ module _ (P : View → Type 0) (K : (w : View) → P w → Kept P w) where
         let n = highest (offers (w .control) (w .heads) i) 16 in
         pick-keeps (Good []) (not (w .control .mode .synced)) (λ u. p)
         (λ u. pick-keeps (Good []) (ltb (w .control .mode .last) i && ltb n 16)
-        (λ x. pick-keeps (Good []) (isLocked (w .control) n) (λ l. p)
-        (λ l. k .sends i n t refl (ltb-true n 16 (and-right (ltb (w .control .mode .last) i) (ltb n 16) x)) l))
+        (λ x. k .sends i n t refl (ltb-true n 16 (and-right (ltb (w .control .mode .last) i) (ltb n 16) x)))
         (λ x. p))
 
     fifo-kept : (f : List ℕ) (i : ℕ) → w .control .mode .init ≡ false → w .control .mode .synced ≡ true → getD f 0 0 ≡ i → eqb i 0 ≡ false →

@@ -1,9 +1,9 @@
 -- The answers that a match on one variant leaves.
-use Prim.Native.Nat.{ℕ, zero, suc}
+use Prim.Native.Nat.{ℕ, zero, suc, _-_}
 use mathlib.Core.Path.{_≡_, refl, sym, ap, _∙_}
 use mathlib.Core.Bool.{Bool, true, false, not}
 use mathlib.Core.List.{List, [], _∷_}
-use lib.Dec.{T, eqb}
+use lib.Dec.{T, eqb, ltb}
 use borrow.Author.Tests.{eqb-true}
 use types.Run.{OneOf, miss}
 use mir.Val.{hasKey}
@@ -12,21 +12,27 @@ use Rattle.masks.specs.Pick.{pick}
 use Rattle.masks.specs.PickLaws.{by-test}
 use Rattle.rules.proofs.Answer.{the-type as the-answer}
 use Rattle.rules.specs.declared.Answer.{Answer}
-use Rattle.rules.specs.declared.Answer.the-variants.{Ok, Value, Stored, Queued, HeldOff, HeldBack, Sent, Pulse, Refused, Overrun, Unmatched, BadFrame, Ignored, Woke, NotSent}
+use Rattle.rules.specs.declared.Answer.the-variants.{Ok, Value, Stored, Queued, HeldOff, Sent, Pulse, Refused, Overrun, Unmatched, BadFrame, Ignored, Woke, NotSent}
 use Rattle.rules.specs.AnswerLaws.{WORDS}
 use Rattle.rules.specs.Answers.{wordOf, SENT, REFUSED}
 use Rattle.replaying.specs.declared.Tally.{Tally}
 use Rattle.replaying.specs.SentLaws.{sentSize, size-unsent}
 use Rattle.replaying.specs.CodeTurn.{countedOf}
 
--- the words are numbered as the variants are declared
-tag-word : (a : Answer) → tagOf the-answer a ≡ wordOf a
+-- the words are numbered as the variants are declared, but for the number 5, which is unused
+abbrev lowered : Bool → ℕ → ℕ
+lowered true w = w - 1
+lowered false w = w
+
+abbrev tagFor : ℕ → ℕ
+tagFor w = lowered (ltb 5 w) w
+
+tag-word : (a : Answer) → tagOf the-answer a ≡ tagFor (wordOf a)
 tag-word Ok = refl
 tag-word (Value v) = refl
 tag-word (Stored n) = refl
 tag-word (Queued n) = refl
 tag-word (HeldOff n) = refl
-tag-word (HeldBack n) = refl
 tag-word (Sent k) = refl
 tag-word (Pulse k) = refl
 tag-word (Refused r) = refl
@@ -37,12 +43,12 @@ tag-word Ignored = refl
 tag-word Woke = refl
 tag-word NotSent = refl
 
--- an answer whose variant is one of ks has no word outside of ks
-other-word : (ks : List ℕ) (w : ℕ) → T (not (hasKey ks w)) → (a : Answer) → OneOf ks (tagOf the-answer a) → eqb (wordOf a) w ≡ false
+-- an answer whose variant is one of ks has no word of another variant
+other-word : (ks : List ℕ) (w : ℕ) → T (not (hasKey ks (tagFor w))) → (a : Answer) → OneOf ks (tagOf the-answer a) → eqb (wordOf a) w ≡ false
 other-word ks w m a h =
-    by-test (eqb (wordOf a) w) (λ e. absurd (miss ks w m (rw (sym (tag-word a ∙ eqb-true (wordOf a) w e)) h))) (λ e. e)
+    by-test (eqb (wordOf a) w) (λ e. absurd (miss ks (tagFor w) m (rw (sym (tag-word a ∙ ap tagFor (eqb-true (wordOf a) w e))) h))) (λ e. e)
 
--- the n numbers from k on but w
+-- the variants from k on, n of them, but w
 abbrev skipping : Bool → ℕ → List ℕ → List ℕ
 skipping true k ks = ks
 skipping false k ks = k ∷ ks
@@ -51,8 +57,9 @@ abbrev from : ℕ → ℕ → ℕ → List ℕ
 from w k zero = []
 from w k (suc n) = skipping (eqb k w) k (from w (suc k) n)
 
+-- the variants but that of word w; there is one less than there are numbers
 abbrev allBut : ℕ → List ℕ
-allBut w = from w 0 WORDS
+allBut w = from (tagFor w) 0 (WORDS - 1)
 
 -- no other answer shows a frame
 pub other-size : (a : Answer) (n : ℕ) → OneOf (allBut SENT) (tagOf the-answer a) → 0 ≡ sentSize a n

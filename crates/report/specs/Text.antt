@@ -38,7 +38,7 @@ decimalOf n = digitsOf (widthOf n) n
 
 -- ---- words and details
 
--- by the words' numbers: ok, read, stored, queued, heldoff, heldback, sent, pulse, refused, overrun, unmatched, badframe, ignored, woke, notsent
+-- by the words' numbers: ok, read, stored, queued, heldoff, none for 5, which is unused, sent, pulse, refused, overrun, unmatched, badframe, ignored, woke, notsent
 unfoldable pub wordTexts : List (List ℕ)
 wordTexts =
     (111 ∷ 107 ∷ [])
@@ -46,7 +46,7 @@ wordTexts =
     ∷ (115 ∷ 116 ∷ 111 ∷ 114 ∷ 101 ∷ 100 ∷ [])
     ∷ (113 ∷ 117 ∷ 101 ∷ 117 ∷ 101 ∷ 100 ∷ [])
     ∷ (104 ∷ 101 ∷ 108 ∷ 100 ∷ 111 ∷ 102 ∷ 102 ∷ [])
-    ∷ (104 ∷ 101 ∷ 108 ∷ 100 ∷ 98 ∷ 97 ∷ 99 ∷ 107 ∷ [])
+    ∷ []
     ∷ (115 ∷ 101 ∷ 110 ∷ 116 ∷ [])
     ∷ (112 ∷ 117 ∷ 108 ∷ 115 ∷ 101 ∷ [])
     ∷ (114 ∷ 101 ∷ 102 ∷ 117 ∷ 115 ∷ 101 ∷ 100 ∷ [])

@@ -5,10 +5,10 @@ use mathlib.Core.Path.{_≡_, sym, ap, _∙_}
 use mathlib.Core.Bool.{Bool, false}
 use mathlib.Core.List.{List}
 use Rattle.rules.specs.declared.Answer.{Answer}
-use Rattle.rules.specs.declared.Answer.the-variants.{Ok, Value, Stored, Queued, HeldOff, HeldBack, Sent, Pulse, Refused, Overrun, Unmatched, BadFrame, Ignored, Woke, NotSent}
+use Rattle.rules.specs.declared.Answer.the-variants.{Ok, Value, Stored, Queued, HeldOff, Sent, Pulse, Refused, Overrun, Unmatched, BadFrame, Ignored, Woke, NotSent}
 use Rattle.rules.specs.Answers.{wordOf, givenOf, isSent, framed, detailOf}
 
--- how many words there are
+-- the words' numbers are below it
 abbrev pub WORDS : ℕ
 WORDS = 15
 
@@ -18,7 +18,6 @@ word-below (Value v) = omega arith
 word-below (Stored n) = omega arith
 word-below (Queued n) = omega arith
 word-below (HeldOff n) = omega arith
-word-below (HeldBack n) = omega arith
 word-below (Sent k) = omega arith
 word-below (Pulse k) = omega arith
 word-below (Refused r) = omega arith

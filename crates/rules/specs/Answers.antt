@@ -7,7 +7,7 @@ use lib.Dec.{eqb}
 use Rattle.rules.specs.declared.SyncKind.{SyncKind}
 use Rattle.rules.specs.declared.SyncKind.the-variants.{Normal, Alarm}
 use Rattle.rules.specs.declared.Answer.{Answer}
-use Rattle.rules.specs.declared.Answer.the-variants.{Ok, Value, Stored, Queued, HeldOff, HeldBack, Sent, Pulse, Refused, Overrun, Unmatched, BadFrame, Ignored, Woke, NotSent}
+use Rattle.rules.specs.declared.Answer.the-variants.{Ok, Value, Stored, Queued, HeldOff, Sent, Pulse, Refused, Overrun, Unmatched, BadFrame, Ignored, Woke, NotSent}
 
 -- what comes with an answer's word
 pub data Given : Type 0 where
@@ -37,7 +37,8 @@ numberIn (counted k) = k
 numberIn (kind k) = syncNumber k
 numberIn (number r) = r
 
--- the words by their numbers, in the order of document 01's report
+-- the words by their numbers, in the order of document 01's report. Number 5 was that of a word which W10 took out; for C's sake no
+-- other number moved.
 pub record Parts : Type 0 where
   pub word : ℕ
   pub given : Given
@@ -51,7 +52,6 @@ partsOf (Value v) = parts 1 (value v)
 partsOf (Stored n) = parts 2 (buffer n)
 partsOf (Queued n) = parts 3 (buffer n)
 partsOf (HeldOff n) = parts 4 (buffer n)
-partsOf (HeldBack n) = parts 5 (buffer n)
 partsOf (Sent k) = parts 6 (counted k)
 partsOf (Pulse k) = parts 7 (kind k)
 partsOf (Refused r) = parts 8 (number r)

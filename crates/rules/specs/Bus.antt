@@ -12,7 +12,7 @@ use Rattle.rules.specs.declared.SyncKind.{SyncKind}
 use Rattle.rules.specs.declared.SyncKind.the-variants.{Normal, Alarm}
 use Rattle.rules.specs.declared.Fault.{Fault}
 use Rattle.rules.specs.declared.Fault.the-variants.{Early, Lost, Illegal, Mismatch}
-use Rattle.rules.specs.declared.Answer.the-variants.{Ok, Stored, Queued, HeldOff, HeldBack, Pulse, Overrun, Unmatched, BadFrame, Ignored, Woke, NotSent}
+use Rattle.rules.specs.declared.Answer.the-variants.{Ok, Stored, Queued, HeldOff, Pulse, Overrun, Unmatched, BadFrame, Ignored, Woke, NotSent}
 use Rattle.rules.specs.declared.Events.{Events}
 use Rattle.rules.specs.declared.Fifo.{Fifo}
 use Rattle.rules.specs.declared.Control.{Control}
@@ -157,12 +157,10 @@ sentFrom c n =
     withBuffers c (withArmed (withIflg (c .buffers) (putBit (c .buffers .iflg) n true)) (putBit (c .buffers .armed) n false))
 
 unfoldable pub sendFrom : Control → ℕ → ℕ → Plan
-sendFrom c i n =
-    pick (isLocked c n) (plain c (HeldBack n))
-    (record { control = withMode (sentFrom c n) (withLast (c .mode) i); moves = []; reply = send n })
+sendFrom c i n = record { control = withMode (sentFrom c n) (withLast (c .mode) i); moves = []; reply = send n }
 
--- "unsynchronized, ignored. If i exceeds the last identifier and armed buffers carry i, the highest is sent [..]. If that
--- buffer is locked, 'heldback' and nothing changes. Otherwise 'notsent'." The highest such buffer is n, or none.
+-- "unsynchronized, ignored. If i exceeds the last identifier and armed buffers carry i, the highest is sent [..]. Otherwise
+-- 'notsent'." (as W10 leaves it: no session arms a locked buffer). The highest such buffer is n, or none.
 unfoldable pub slotFor : Control → ℕ → ℕ → Plan
 slotFor c i n =
     pick (not (c .mode .synced)) (plain c Ignored)

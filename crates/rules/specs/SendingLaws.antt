@@ -66,7 +66,7 @@ slot-honest c hs i =
     let n = highest (offers c hs i) 16 in
     pick-keeps Honest (not (c .mode .synced)) (λ t. ok _ refl)
     (λ t. pick-keeps Honest (ltb (c .mode .last) i && ltb n 16)
-    (λ u. pick-keeps Honest (isLocked c n) (λ x. ok _ refl) (λ x. ok _ refl)) (λ u. ok _ refl))
+    (λ u. ok _ refl) (λ u. ok _ refl))
 
 buffer-honest : (c : Control) (n : ℕ) → Honest (toBuffer c n)
 unfolding toBuffer

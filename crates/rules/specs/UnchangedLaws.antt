@@ -72,7 +72,7 @@ module _ (c : Control) where
       let n = highest (offers c hs i) 16 in
       pick-keeps (Still c) (not (c .mode .synced)) (λ t. same c Ignored)
       (λ t. pick-keeps (Still c) (ltb (c .mode .last) i && ltb n 16)
-      (λ u. pick-keeps (Still c) (isLocked c n) (λ x. other _ refl) (λ x. other _ refl)) (λ u. other _ refl))
+      (λ u. other _ refl) (λ u. other _ refl))
 
   act-still : (hs : List Head) (e : Step) → Still c (act c hs e)
   unfolding act

@@ -20,10 +20,9 @@ isBusEvent (frame good f) = true
 isBusEvent (fault k) = true
 isBusEvent timeout = true
 
--- the place that a queued frame would take is not locked
-pub record NextFree (c : Control) : Type 0 where
+-- what a bus event takes without asking for its lock is not locked: the place of a queued frame, and an armed buffer at its slot
+pub record TargetsFree (c : Control) : Type 0 where
   pub next-free : c .mode .init ≡ false → c .fifo .count < c .config .fsiz → isLocked c (c .fifo .next) ≡ false
-  -- nor is an armed buffer
   pub armed-free : (m : ℕ) → m < 16 → isArmed c m ≡ true → isLocked c m ≡ false
 
 -- holders and contenders: of receive and transmit, and the FIFO window's holder

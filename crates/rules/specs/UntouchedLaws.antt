@@ -4,13 +4,14 @@ use mathlib.Core.Path.{_≡_, refl, sym, ap, _∙_}
 use Prim.Native.Nat.{ℕ, _<_}
 use mathlib.Core.Bool.{Bool, true, false, _&&_, _||_, not, and-false, false≢true}
 use mathlib.Core.List.{List, [], _∷_}
-use borrow.Author.Tests.{ne-eqb, leb-false}
+use borrow.Author.Tests.{ne-eqb, leb-false, ltb-true}
 use lib.ListN.{getD}
 use lib.Dec.{eqb, ltb, leb}
 use Rattle.masks.specs.PickLaws.{pick-keeps, by-test}
 use Rattle.masks.specs.Bits.{bitOf, maskOf, putBit, highest}
 use Rattle.masks.specs.Laws.{bit-none, bit-mask, put-other}
-use Rattle.masks.specs.SearchLaws.{never-both}
+use Rattle.masks.specs.SearchLaws.{never-both, highest-holds}
+use Rattle.masks.specs.LayoutLaws.{and-true}
 use Rattle.contents.specs.Bytes.{Head}
 use Rattle.rules.specs.declared.SyncKind.{SyncKind}
 use Rattle.rules.specs.declared.Fault.{Fault}
@@ -25,9 +26,9 @@ use Rattle.rules.specs.Modes.{wake}
 use Rattle.rules.specs.Bus.{woken, arms, synced, dueKind, dueSync, timedOut, faulted, lookup, toBuffer, fifoTakes, toFifo, raiseLast, found, judged, received, offers, sendFrom, slotFor, slotted}
 use Rattle.rules.specs.Refusals.{refusal}
 use Rattle.rules.specs.Steps.{Step, reset, read, write, sync, syncDue, slot, frame, fault, timeout}
-use Rattle.rules.specs.Plan.{Move, store, Plan, plain}
+use Rattle.rules.specs.Plan.{Move, store, headAt, Plan, plain}
 use Rattle.rules.specs.Rules.{onBus, act, decide}
-use Rattle.rules.specs.Untouched.{isBusEvent, NextFree, rolesOf}
+use Rattle.rules.specs.Untouched.{isBusEvent, TargetsFree, rolesOf}
 
 -- moves that leave buffer n alone
 pub data Avoids (n : ℕ) : List Move → Type 0 where
@@ -47,7 +48,7 @@ flag-other : (abtak locked iena cfg : Bool) (m n k : ℕ) → n < 16 → eqb n k
 flag-other abtak locked iena cfg m n k h d =
     ap (λ (t : Bool). withFlag abtak ABTAK (withFlag locked LOCK (withFlag t IFLG (withFlag iena IENA (withFlag cfg CFG 0))))) (put-other m k true n d h)
 
-module _ (c : Control) (n : ℕ) (small : n < 16) (locked : isLocked c n ≡ true) (free : NextFree c) where
+module _ (c : Control) (n : ℕ) (small : n < 16) (locked : isLocked c n ≡ true) (free : TargetsFree c) where
   -- an unlocked buffer is another one
   another : (m : ℕ) → isLocked c m ≡ false → eqb n m ≡ false
   another m u = ne-eqb n m (λ e. false≢true (sym u ∙ ap (isLocked c) (sym e) ∙ locked))
@@ -121,14 +122,21 @@ module _ (c : Control) (n : ℕ) (small : n < 16) (locked : isLocked c n ≡ tru
       (λ t. pick-keeps (Spares c n) (not good || eqb i 0) (λ u. record { same-bufctl = refl; same-arming = refl; same-roles = refl; avoided = none })
       (λ u. pick-keeps (Spares c n) (ltb (lookup c hs i) 16) (λ x. buffer-spares i (lookup c hs i)) (λ x. fifo-spares i o)))
 
+  -- what is sent is armed, so not locked, and another buffer
+  sent-other : (hs : List Head) (i : ℕ) → highest (offers c hs i) 16 < 16 → eqb n (highest (offers c hs i) 16) ≡ false
+  unfolding offers
+  sent-other hs i b =
+      let m = highest (offers c hs i) 16 in
+      another m (free .armed-free m b (and-true (isArmed c m) (eqb (headAt hs m .ident) i) (highest-holds (offers c hs i) 16 b) .0))
+
   slot-spares : (hs : List Head) (i : ℕ) → Spares c n (slotted c hs i)
   unfolding slotted slotFor sendFrom bufctl isLocked fifoHolder
   slot-spares hs i =
       let m = highest (offers c hs i) 16 in
       pick-keeps (Spares c n) (not (c .mode .synced)) (λ t. same Ignored)
       (λ t. pick-keeps (Spares c n) (ltb (c .mode .last) i && ltb m 16)
-      (λ u. pick-keeps (Spares c n) (isLocked c m) (λ x. record { same-bufctl = refl; same-arming = refl; same-roles = refl; avoided = none })
-      (λ x. record { same-bufctl = flag-other _ _ _ _ (c .buffers .iflg) n m small (another m x); same-arming = put-other (c .buffers .armed) m false n (another m x) small; same-roles = refl; avoided = none }))
+      (λ u. let other = sent-other hs i (ltb-true m 16 (and-true (ltb (c .mode .last) i) (ltb m 16) u .1)) in
+      record { same-bufctl = flag-other _ _ _ _ (c .buffers .iflg) n m small other; same-arming = put-other (c .buffers .armed) m false n other small; same-roles = refl; avoided = none })
       (λ u. record { same-bufctl = refl; same-arming = refl; same-roles = refl; avoided = none }))
 
   act-spares : (hs : List Head) (e : Step) → isBusEvent e ≡ true → Spares c n (act c hs e)

@@ -53,7 +53,6 @@ pub enum Answer {
     Stored(u8),
     Queued(u8),
     HeldOff(u8),
-    HeldBack(u8),
     // so many bytes of the room are the frame
     Sent(u8),
     Pulse(SyncKind),
