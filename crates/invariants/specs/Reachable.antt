@@ -1,5 +1,5 @@
--- Every session from reset: the record after it is sound, no bus event changes a locked buffer, and registers read what
--- document 01 says of flags and reserved bits.
+-- Every session from reset: the record after it is sound, no bus event changes a locked buffer, no slot meets one, and registers
+-- read what document 01 says of flags and reserved bits.
 use mathlib.Core.Path.{_≡_, refl, ap, _∙_}
 use Prim.Native.Nat.{ℕ, _<_}
 use mathlib.Core.Bool.{true, false, _||_}
@@ -32,7 +32,7 @@ use Rattle.invariants.specs.Sound.{RISR, GISR, RegistersSound, Sound}
 use Rattle.invariants.specs.FlagLaws.{bit-absent-in, flag-own, flag-other}
 use Rattle.invariants.specs.Reads.{reservedBits, after, reads}
 use Rattle.invariants.specs.Slots.{slottedWith, decideWith, headsAfter, offered}
-use Rattle.invariants.specs.SlotLaws.{slot-unlocked, slot-same, same-run, same-end}
+use Rattle.invariants.specs.SlotLaws.{slot-unlocked, slot-same, decide-same, same-run, same-end}
 use Rattle.invariants.specs.ReservedBitLaws.{reserved-by}
 use Rattle.invariants.specs.KeptSoundLaws.{reset-sound}
 use Rattle.invariants.specs.ReachableLaws.{session-sound, targets-free}
@@ -55,15 +55,17 @@ pub offered-unlocked : (es : List Step) (i : ℕ) → offered es i < 16 → isLo
 offered-unlocked es i = slot-unlocked (viewOf (endOf resetState es)) (reachable-sound es) i
 
 -- so the slot's rule with any plan for a locked buffer is the rule without it, on every record that a session reaches
-pub locked-never-offered : (es : List Step) (p : ℕ → Plan) (i : ℕ) → slottedWith p (after es) (headsAfter es) i ≡ slotted (after es) (headsAfter es) i
-locked-never-offered es p i = slot-same p (viewOf (endOf resetState es)) (reachable-sound es) i
+pub same-slots : (es : List Step) (p : ℕ → Plan) (i : ℕ) → slottedWith p (after es) (headsAfter es) i ≡ slotted (after es) (headsAfter es) i
+same-slots es p i = slot-same p (viewOf (endOf resetState es)) (reachable-sound es) i
 
--- W10: no session under document 01's rules, which answered "heldback" there, ever got that answer: with any plan in its place every session
--- from reset reports the same, and ends in the same record, as under the rules that W10 leaves
+-- W10: document 01 had the answer "heldback" there, and no session ever got it. With any plan in its place every session from reset
+-- reports what it reports under the rules that W10 leaves, and ends in the same record.
 pub same-sessions : (p : Control → List Head → ℕ → Plan) (es : List Step) →
     (runBy (decideWith p) linesOf resetState es ≡ runOf resetState es) × (endBy (decideWith p) resetState es ≡ endOf resetState es)
 unfolding runOf endOf resetState
-same-sessions p es = (same-run p resetState reset-sound es, same-end p resetState reset-sound es)
+same-sessions p es =
+    let alike = decide-same p in
+    (same-run (decideWith p) alike resetState reset-sound es, same-end (decideWith p) alike resetState reset-sound es)
 
 -- ---- what registers read, after any session from reset
 

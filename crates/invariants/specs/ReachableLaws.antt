@@ -26,11 +26,13 @@ use Rattle.invariants.specs.KeptSoundLaws.{reset-sound, sound-kept}
 pub step-sound : (w : View) → Sound w → (e : Step) → Sound (viewNext decide w e)
 step-sound w s e = step-kept Sound sound-kept w s reset-sound e
 
+pub next-sound : (c : Controller) (e : Step) → Sound (viewOf c) → Sound (viewOf (stepBy decide c e .next))
+next-sound c e s = rw (step-view decide c e) (step-sound (viewOf c) s (hide e))
+
 pub session-sound : (c : Controller) (es : List Step) → Sound (viewOf c) → Sound (viewOf (endBy decide c es))
 unfolding endBy
 session-sound c [] s = s
-session-sound c (e ∷ es) s =
-    session-sound (stepBy decide c e .next) es (rw (step-view decide c e) (step-sound (viewOf c) s (hide e)))
+session-sound c (e ∷ es) s = session-sound (stepBy decide c e .next) es (next-sound c e s)
 
 -- ---- the FIFO's next place is not locked while there is room, nor is an armed buffer
 

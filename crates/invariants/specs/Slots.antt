@@ -1,4 +1,4 @@
--- Document 01's rules as they were before request W10: at a slot, a locked buffer had a plan of its own. Which one is left open.
+-- Document 01's rules as they were before request W10: a slot whose buffer was locked had a plan of its own. Which plan is left open.
 use Prim.Native.Nat.{ℕ}
 use mathlib.Core.Bool.{_&&_, not}
 use mathlib.Core.List.{List}
@@ -10,7 +10,7 @@ use Rattle.rules.specs.declared.Answer.the-variants.{Ignored, NotSent, Refused}
 use Rattle.rules.specs.declared.Control.{Control}
 use Rattle.rules.specs.Kinds.{isLocked}
 use Rattle.rules.specs.Bus.{offers, sendFrom}
-use Rattle.rules.specs.Plan.{Plan, plain}
+use Rattle.rules.specs.Plan.{Plan, plain, Rules}
 use Rattle.rules.specs.Refusals.{refusal}
 use Rattle.rules.specs.Steps.{Step, reset, read, write, sync, syncDue, slot, frame, fault, timeout}
 use Rattle.rules.specs.Rules.{sleepsOn, decide}
@@ -18,15 +18,15 @@ use Rattle.controller.specs.Carry.{resetState, heads}
 use Rattle.controller.specs.Session.{endOf}
 use Rattle.invariants.specs.Reads.{after}
 
--- slot i: as `slotted`, but that where the buffer n that would be sent is locked, the plan is p n
+-- slot i as `slotted` has it, but with the plan p n where the buffer n that it would send is locked
 abbrev pub slottedWith : (ℕ → Plan) → Control → List Head → ℕ → Plan
 slottedWith p c hs i =
     let n = highest (offers c hs i) 16 in
     pick (not (c .mode .synced)) (plain c Ignored)
     (pick (ltb (c .mode .last) i && ltb n 16) (pick (isLocked c n) (p n) (sendFrom c i n)) (plain c NotSent))
 
--- the rules with such slots; the plan for a locked buffer may look at all that rules may
-abbrev pub decideWith : (Control → List Head → ℕ → Plan) → Control → List Head → Step → Plan
+-- document 01's rules with such slots; the plan for a locked buffer may depend on all that a rule is given
+abbrev pub decideWith : (Control → List Head → ℕ → Plan) → Rules
 decideWith p c hs reset = decide c hs reset
 decideWith p c hs (read a) = decide c hs (read a)
 decideWith p c hs (write a v) = decide c hs (write a v)

@@ -10,7 +10,7 @@ use Rattle.masks.specs.Bits.{bitOf, maskOf, lowest, countOf, rising}
 use Rattle.masks.specs.Laws.{not-by-mask, bit-mask, mask-of}
 use Rattle.masks.specs.SearchLaws.{lowest-le, lowest-holds, lowest-before, count-ext}
 
-pub and-true : (a b : Bool) → (a && b) ≡ true → (a ≡ true) × (b ≡ true)
+and-true : (a b : Bool) → (a && b) ≡ true → (a ≡ true) × (b ≡ true)
 and-true true b e = (refl, e)
 and-true false b e = let z : _≡_ {A = Bool} false true = e in (cc, cc)
 

@@ -38,7 +38,8 @@ decimalOf n = digitsOf (widthOf n) n
 
 -- ---- words and details
 
--- by the words' numbers: ok, read, stored, queued, heldoff, none for 5, which is unused, sent, pulse, refused, overrun, unmatched, badframe, ignored, woke, notsent
+-- by the words' numbers: ok, read, stored, queued, heldoff, none for 5, which is unused, sent, pulse, refused, overrun, unmatched,
+-- badframe, ignored, woke, notsent
 unfoldable pub wordTexts : List (List ℕ)
 wordTexts =
     (111 ∷ 107 ∷ [])

@@ -160,7 +160,7 @@ unfoldable pub sendFrom : Control → ℕ → ℕ → Plan
 sendFrom c i n = record { control = withMode (sentFrom c n) (withLast (c .mode) i); moves = []; reply = send n }
 
 -- "unsynchronized, ignored. If i exceeds the last identifier and armed buffers carry i, the highest is sent [..]. Otherwise
--- 'notsent'." (as W10 leaves it: no session arms a locked buffer). The highest such buffer is n, or none.
+-- 'notsent'.", as W10 leaves it: an armed buffer is never locked. The highest such buffer is n, or none.
 unfoldable pub slotFor : Control → ℕ → ℕ → Plan
 slotFor c i n =
     pick (not (c .mode .synced)) (plain c Ignored)

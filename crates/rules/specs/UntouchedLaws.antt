@@ -2,7 +2,7 @@
 -- if it was, and holders and contenders stay.
 use mathlib.Core.Path.{_≡_, refl, sym, ap, _∙_}
 use Prim.Native.Nat.{ℕ, _<_}
-use mathlib.Core.Bool.{Bool, true, false, _&&_, _||_, not, and-false, false≢true}
+use mathlib.Core.Bool.{Bool, true, false, _&&_, _||_, not, and-false, and-eq-true-iff, false≢true}
 use mathlib.Core.List.{List, [], _∷_}
 use borrow.Author.Tests.{ne-eqb, leb-false, ltb-true}
 use lib.ListN.{getD}
@@ -11,7 +11,6 @@ use Rattle.masks.specs.PickLaws.{pick-keeps, by-test}
 use Rattle.masks.specs.Bits.{bitOf, maskOf, putBit, highest}
 use Rattle.masks.specs.Laws.{bit-none, bit-mask, put-other}
 use Rattle.masks.specs.SearchLaws.{never-both, highest-holds}
-use Rattle.masks.specs.LayoutLaws.{and-true}
 use Rattle.contents.specs.Bytes.{Head}
 use Rattle.rules.specs.declared.SyncKind.{SyncKind}
 use Rattle.rules.specs.declared.Fault.{Fault}
@@ -47,6 +46,13 @@ flag-other : (abtak locked iena cfg : Bool) (m n k : ℕ) → n < 16 → eqb n k
     ≡ withFlag abtak ABTAK (withFlag locked LOCK (withFlag (bitOf m n) IFLG (withFlag iena IENA (withFlag cfg CFG 0))))
 flag-other abtak locked iena cfg m n k h d =
     ap (λ (t : Bool). withFlag abtak ABTAK (withFlag locked LOCK (withFlag t IFLG (withFlag iena IENA (withFlag cfg CFG 0))))) (put-other m k true n d h)
+
+-- the buffer that a slot would send is armed
+pub offered-armed : (c : Control) (hs : List Head) (i : ℕ) → highest (offers c hs i) 16 < 16 → isArmed c (highest (offers c hs i) 16) ≡ true
+unfolding offers
+offered-armed c hs i b =
+    let m = highest (offers c hs i) 16 in
+    and-eq-true-iff (isArmed c m) (eqb (headAt hs m .ident) i) .0 (highest-holds (offers c hs i) 16 b) .0
 
 module _ (c : Control) (n : ℕ) (small : n < 16) (locked : isLocked c n ≡ true) (free : TargetsFree c) where
   -- an unlocked buffer is another one
@@ -124,10 +130,9 @@ module _ (c : Control) (n : ℕ) (small : n < 16) (locked : isLocked c n ≡ tru
 
   -- what is sent is armed, so not locked, and another buffer
   sent-other : (hs : List Head) (i : ℕ) → highest (offers c hs i) 16 < 16 → eqb n (highest (offers c hs i) 16) ≡ false
-  unfolding offers
   sent-other hs i b =
       let m = highest (offers c hs i) 16 in
-      another m (free .armed-free m b (and-true (isArmed c m) (eqb (headAt hs m .ident) i) (highest-holds (offers c hs i) 16 b) .0))
+      another m (free .armed-free m b (offered-armed c hs i b))
 
   slot-spares : (hs : List Head) (i : ℕ) → Spares c n (slotted c hs i)
   unfolding slotted slotFor sendFrom bufctl isLocked fifoHolder
@@ -135,7 +140,7 @@ module _ (c : Control) (n : ℕ) (small : n < 16) (locked : isLocked c n ≡ tru
       let m = highest (offers c hs i) 16 in
       pick-keeps (Spares c n) (not (c .mode .synced)) (λ t. same Ignored)
       (λ t. pick-keeps (Spares c n) (ltb (c .mode .last) i && ltb m 16)
-      (λ u. let other = sent-other hs i (ltb-true m 16 (and-true (ltb (c .mode .last) i) (ltb m 16) u .1)) in
+      (λ u. let other = sent-other hs i (ltb-true m 16 (and-eq-true-iff (ltb (c .mode .last) i) (ltb m 16) .0 u .1)) in
       record { same-bufctl = flag-other _ _ _ _ (c .buffers .iflg) n m small other; same-arming = put-other (c .buffers .armed) m false n other small; same-roles = refl; avoided = none })
       (λ u. record { same-bufctl = refl; same-arming = refl; same-roles = refl; avoided = none }))
 
