@@ -129,7 +129,7 @@ enum hevrukan_register {
     BFPCTLBF = 0x10,  // port control
     BFBUFLOCK = 0x12, // buffer lock
     BFFIDRJ = 0x14,   // FIFO identifier rejection pattern
-    BFFIDRMR = 0x15,  // its mask
+    BFFIDRMR = 0x15,  // its mask; 0xFF, as after reset, rejects none
     BFTIDENT = 0x20,  // the transmit window: the locked transmit buffer
     BFTLEN = 0x21,
     BFTDATA0 = 0x22,

@@ -129,7 +129,12 @@ class Edges(unittest.TestCase):
             self.assertEqual(running().frame(data), Answer("stored", 3))
         self.assertEqual(running().frame(b"\x21\x0f" + bytes(12)), ("stored", 3))
         self.assertEqual(running().frame(b"\x21\x00", good=False), ("badframe", None))
-        self.assertEqual(running().frame(b"\x22\x00"), ("unmatched", None))
+        # no receive buffer carries $22, and the filters are as after reset
+        self.assertEqual(running().frame(b"\x22\x00"), ("queued", 0))
+        no_fifo = Controller()
+        no_fifo.write(BFMCR, 0)
+        no_fifo.sync()
+        self.assertEqual(no_fifo.frame(b"\x22\x00"), ("unmatched", None))
 
     def test_rooms(self):
         for room in (0, 1, 13):

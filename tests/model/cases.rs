@@ -8,7 +8,7 @@ const NONE: u8 = 0x10;
 
 pub type Test = fn(&Taken) -> bool;
 
-pub const CASES: [(&str, Test); 48] = [
+pub const CASES: [(&str, Test); 52] = [
     (
         "held off though a later buffer carries the identifier",
         held_off_with_another,
@@ -17,7 +17,19 @@ pub const CASES: [(&str, Test); 48] = [
         matches!(t.answer, Answer::Stored(_)) && length_byte(t) > 12
     }),
     ("queued with a length byte above 12", |t| {
-        matches!(t.answer, Answer::Queued(_)) && length_byte(t) > 12
+        queues(t) && length_byte(t) > 12
+    }),
+    ("queued with acceptance mask $FF", |t| {
+        queues(t) && t.before.acceptance.mask == 0xFF
+    }),
+    ("queued with rejection mask $FF", |t| {
+        queues(t) && t.before.rejection.mask == 0xFF
+    }),
+    ("rejected with acceptance mask $FF", |t| {
+        filtered(t) && t.before.acceptance.mask == 0xFF
+    }),
+    ("not accepted with rejection mask $FF", |t| {
+        filtered(t) && t.before.rejection.mask == 0xFF
     }),
     ("queued in place 0 again", |t| {
         t.answer == Answer::Queued(0) && t.before.fifo_oldest > 0
@@ -171,6 +183,15 @@ fn held_off_with_another(t: &Taken) -> bool {
     };
     let carries = |n: usize| t.before.identifiers[n] == bytes[0] && t.before.receive >> n & 1 == 1;
     (usize::from(buffer) + 1..16).any(carries)
+}
+
+fn queues(t: &Taken) -> bool {
+    matches!(t.answer, Answer::Queued(_))
+}
+
+/// A frame that comes to the FIFO's filters and isn't taken.
+fn filtered(t: &Taken) -> bool {
+    t.answer == Answer::Unmatched && t.before.fsiz > 0
 }
 
 fn fifo_lock(model: &Controller) -> bool {

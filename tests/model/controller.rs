@@ -1,4 +1,4 @@
-//! The controller of document 01, changed in place.
+//! The controller of document 01, as its change requests amend it, changed in place.
 //!
 //! Sets of buffers are sixteen-bit masks, bit n for buffer n. Flags and interrupt lines that follow
 //! from other state (RCVFIF, RXIF, TXIF, LOCKIF, the vectors, the five lines) are worked out when read.
@@ -718,8 +718,10 @@ impl Controller {
     }
 
     fn queue(&mut self, identifier: u8, data: &[u8]) -> Answer {
-        let taken = self.acceptance.matches(identifier) && !self.rejection.matches(identifier);
-        if self.fsiz == 0 || !taken {
+        let accepted = self.acceptance.matches(identifier);
+        // Mask $FF in $15 means no rejection, though such a pair matches every identifier (W2).
+        let rejected = self.rejection.mask != 0xFF && self.rejection.matches(identifier);
+        if self.fsiz == 0 || !accepted || rejected {
             return Answer::Unmatched;
         }
         if self.fifo_count == self.fsiz {

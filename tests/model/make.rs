@@ -234,7 +234,7 @@ impl Maker {
     }
 
     fn set_filters(&mut self) {
-        // In one of twelve the rejection of reset stays, which rejects all.
+        // In one of twelve the filters of reset stay: all are accepted and none is rejected.
         if self.random.one_in(12) {
             return;
         }
@@ -243,7 +243,7 @@ impl Maker {
         self.write(0x0C, pattern);
         self.write(0x0D, mask);
         let pattern = self.random.below(IDENTIFIERS) as u8;
-        let mask = self.random.of(&[0x00, 0x00, 0x03, 0x18]);
+        let mask = self.random.of(&[0x00, 0x00, 0x03, 0x18, 0xFF]);
         self.write(0x14, pattern);
         self.write(0x15, mask);
     }

@@ -42,13 +42,13 @@ fn unmarked(verdict: Verdict) -> Outcome
     }
 }
 
-// The FIFO takes identifier i: FSIZ is not 0, the acceptance filter matches it and the rejection filter doesn't.
+// The FIFO takes identifier i: FSIZ is not 0, the acceptance filter matches it and the rejection filter doesn't reject it.
 fn fifo_takes(c: Control, i: u8) -> bool
     ensures { λ r. ⌜ r ≡ fifoTakes c i ⌝ }
 {
     let accept = c.config.accept;
     let reject = c.config.reject;
-    0 < c.config.fsiz && accept.matches(i) && !reject.matches(i)
+    0 < c.config.fsiz && accept.matches(i) && !reject.rejects(i)
 }
 
 // A frame for dedicated receive buffer n.

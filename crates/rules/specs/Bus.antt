@@ -6,7 +6,7 @@ use lib.Dec.{eqb, ltb, leb}
 use lib.Bits.{bitOr}
 use Rattle.masks.specs.Pick.{pick}
 use Rattle.masks.specs.Bits.{putBit, maskOf, lowest, highest}
-use Rattle.filter.specs.Match.{matches}
+use Rattle.filter.specs.Match.{matches, rejects}
 use Rattle.contents.specs.Bytes.{Head}
 use Rattle.rules.specs.declared.SyncKind.{SyncKind}
 use Rattle.rules.specs.declared.SyncKind.the-variants.{Normal, Alarm}
@@ -107,7 +107,7 @@ toBuffer c n =
 
 -- "the FIFO takes it if FSIZ > 0 and it is accepted and not rejected"
 unfoldable pub fifoTakes : Control → ℕ → Bool
-fifoTakes c i = ltb 0 (c .config .fsiz) && matches (c .config .accept) i && not (matches (c .config .reject) i)
+fifoTakes c i = ltb 0 (c .config .fsiz) && matches (c .config .accept) i && not (rejects (c .config .reject) i)
 
 -- the FIFO with one more entry, in its next place
 abbrev pub withEntry : Control → Fifo

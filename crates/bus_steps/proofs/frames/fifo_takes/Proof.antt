@@ -10,14 +10,14 @@ use Rattle.bus_steps.proofs.frames.fifo_takes.Tie as tie
 matches-requires : tie.Need-matches-requires
 matches-requires c κs = search needs
 
-matches-requires-2 : tie.Need-matches-requires-2
-matches-requires-2 c κs = search needs
+rejects-requires : tie.Need-rejects-requires
+rejects-requires c κs = search needs
 
 returns : tie.Need-returns
 unfolding fifoTakes
 returns c =
     ⊎-elim
-    (λ w. simp (lt-ltb _ _ (w .0 .taken), ← (w .1 .ensures), ← (w .2), c .before .if2 .taken, ← (c .matches2 .ensures)))
+    (λ w. simp (lt-ltb _ _ (w .0 .taken), ← (w .1 .ensures), ← (w .2), c .before .if2 .taken, ← (c .rejects .ensures)))
     (λ w. absurd (never-both _ (c .before .if2 .taken) (w .1 ∙ le-ltb _ _ (w .0 .left))))
     (c .before .before .if1 .came)
 
@@ -30,4 +30,4 @@ returns-2 c =
     (c .before .if1 .came)
 
 pub fifo-takes-spec : {M : Type 1} → statement M
-fifo-takes-spec = tie.close (tie.spec matches-requires matches-requires-2 returns returns-2)
+fifo-takes-spec = tie.close (tie.spec matches-requires rejects-requires returns returns-2)
