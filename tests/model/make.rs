@@ -234,7 +234,7 @@ impl Maker {
     }
 
     fn set_filters(&mut self) {
-        // In one of twelve the filters of reset stay: all are accepted and none is rejected.
+        // In one of twelve they stay as they were; those of reset accept all and reject none.
         if self.random.one_in(12) {
             return;
         }
