@@ -1,4 +1,4 @@
--- A mask of $FF compares no bit.
+-- An open mask, $FF, compares no bit.
 use mathlib.Core.Path.{_≡_}
 use Prim.Native.Nat.{ℕ}
 use mathlib.Core.Bool.{true, false}
@@ -6,7 +6,7 @@ use Rattle.masks.specs.Bits.{bitOf}
 use Rattle.filter.specs.declared.Filter.{Filter}
 use Rattle.filter.specs.Match.{agrees, matches, rejects}
 
--- such a pair matches every identifier,
+-- its pair matches every identifier,
 pub open-matches-all : (f : Filter) (i : ℕ) → f .mask ≡ 0xFF → matches f i ≡ true
 unfolding matches agrees bitOf
 open-matches-all f i e = simp e

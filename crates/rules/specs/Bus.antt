@@ -120,13 +120,15 @@ withEntry c =
     }
 
 -- "in place 0 first after initialization, then in the place after the last one used [..]. A full FIFO sets OVRNIF and
--- drops the new frame (h). Otherwise 'unmatched'."
+-- drops the new frame (h)."
+abbrev pub takenByFifo : Control → Plan
+takenByFifo c =
+    pick (leb (c .config .fsiz) (c .fifo .count)) (plain (raiseGisr c OVRNIF) Overrun)
+    (record { control = withFifo c (withEntry c); moves = store (c .fifo .next) ∷ []; reply = say (Queued (c .fifo .next)) })
+
+-- "Otherwise 'unmatched'."
 unfoldable pub toFifo : Control → ℕ → Plan
-toFifo c i =
-    pick (fifoTakes c i)
-    (pick (leb (c .config .fsiz) (c .fifo .count)) (plain (raiseGisr c OVRNIF) Overrun)
-    (record { control = withFifo c (withEntry c); moves = store (c .fifo .next) ∷ []; reply = say (Queued (c .fifo .next)) }))
-    (plain c Unmatched)
+toFifo c i = pick (fifoTakes c i) (takenByFifo c) (plain c Unmatched)
 
 -- "the last identifier becomes the larger of itself and this one"
 unfoldable pub raiseLast : Control → ℕ → Control

@@ -1,33 +1,28 @@
--- W2: with $FF in both masks, as after reset, no filter keeps a frame out of the FIFO.
+-- W2: with open filters, $FF in both masks as after reset, no filter keeps a frame out of the FIFO.
 use mathlib.Core.Path.{_≡_}
 use Prim.Native.Nat.{ℕ}
 use mathlib.Core.Bool.{true, false}
 use mathlib.Core.List.{List}
 use lib.ListN.{getD}
-use lib.Dec.{eqb, ltb, leb}
+use lib.Dec.{eqb, ltb}
 use Rattle.masks.specs.Pick.{pick}
-use Rattle.masks.specs.PickLaws.{by-test}
 use Rattle.filter.specs.MatchLaws.{open-matches-all, open-rejects-none}
 use Rattle.contents.specs.Bytes.{Head}
-use Rattle.rules.specs.declared.Answer.the-variants.{Queued, Overrun}
 use Rattle.rules.specs.declared.Control.{Control}
-use Rattle.rules.specs.Bus.{lookup, fifoTakes, toFifo, raiseLast, found, judged, received}
+use Rattle.rules.specs.Bus.{lookup, fifoTakes, takenByFifo, toFifo, raiseLast, found, judged, received}
 use Rattle.rules.specs.Refusals.{refusal}
 use Rattle.rules.specs.Steps.{frame}
-use Rattle.rules.specs.Plan.{say}
 use Rattle.rules.specs.Rules.{onBus, act, decide}
 
--- A FIFO then takes every good frame, of identifier not 0, that no dedicated receive buffer carries, until it is full. The frame is not
--- refused, the module in normal operation, awake and synchronized.
+-- In normal operation, awake and synchronized, a FIFO with open filters takes every good frame that isn't refused, whose identifier
+-- isn't 0 and which no dedicated receive buffer carries.
 pub open-fifo-takes : (c : Control) (hs : List Head) (f : List ℕ) →
     c .config .accept .mask ≡ 0xFF → c .config .reject .mask ≡ 0xFF → ltb 0 (c .config .fsiz) ≡ true →
     refusal c (frame true f) ≡ 0 → c .mode .init ≡ false → c .mode .slpak ≡ false → c .mode .synced ≡ true →
     eqb (getD f 0 0) 0 ≡ false → ltb (lookup c hs (getD f 0 0)) 16 ≡ false →
-    decide c hs (frame true f) .reply ≡ say (pick (leb (c .config .fsiz) (c .fifo .count)) Overrun (Queued (c .fifo .next)))
+    decide c hs (frame true f) ≡ takenByFifo (raiseLast c (getD f 0 0))
 unfolding decide act onBus received judged found toFifo fifoTakes raiseLast pick
 open-fifo-takes c hs f accepting rejecting some sized normal awake synced named none =
     let accepted = open-matches-all (c .config .accept) (getD f 0 0) accepting in
     let unrejected = open-rejects-none (c .config .reject) (getD f 0 0) rejecting in
-    by-test (leb (c .config .fsiz) (c .fifo .count))
-    (λ full. simp (sized, normal, awake, synced, named, none, some, accepted, unrejected, full))
-    (λ room. simp (sized, normal, awake, synced, named, none, some, accepted, unrejected, room))
+    simp (sized, normal, awake, synced, named, none, some, accepted, unrejected)
