@@ -119,14 +119,14 @@ withEntry c =
       locked = c .fifo .locked;
     }
 
--- "in place 0 first after initialization, then in the place after the last one used [..]. A full FIFO sets OVRNIF and
--- drops the new frame (h)."
+-- A frame that the filters let in goes "in place 0 first after initialization, then in the place after the last one used [..]. A full
+-- FIFO sets OVRNIF and drops the new frame (h)."
 abbrev pub takenByFifo : Control → Plan
 takenByFifo c =
     pick (leb (c .config .fsiz) (c .fifo .count)) (plain (raiseGisr c OVRNIF) Overrun)
     (record { control = withFifo c (withEntry c); moves = store (c .fifo .next) ∷ []; reply = say (Queued (c .fifo .next)) })
 
--- "Otherwise 'unmatched'."
+-- a frame that no dedicated receive buffer carries; kept out by the filters or without a FIFO, "Otherwise 'unmatched'"
 unfoldable pub toFifo : Control → ℕ → Plan
 toFifo c i = pick (fifoTakes c i) (takenByFifo c) (plain c Unmatched)
 

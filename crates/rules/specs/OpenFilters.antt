@@ -15,7 +15,7 @@ use Rattle.rules.specs.Steps.{frame}
 use Rattle.rules.specs.Rules.{onBus, act, decide}
 
 -- In normal operation, awake and synchronized, a FIFO with open filters takes every good frame that isn't refused, whose identifier
--- isn't 0 and which no dedicated receive buffer carries.
+-- isn't 0 and which no dedicated receive buffer carries; if it is full, it drops the frame as it drops any.
 pub open-fifo-takes : (c : Control) (hs : List Head) (f : List ℕ) →
     c .config .accept .mask ≡ 0xFF → c .config .reject .mask ≡ 0xFF → ltb 0 (c .config .fsiz) ≡ true →
     refusal c (frame true f) ≡ 0 → c .mode .init ≡ false → c .mode .slpak ≡ false → c .mode .synced ≡ true →
