@@ -361,7 +361,7 @@ module _ {G} (W : Given 𝓤 H A) {AM} (κ : Lft) (q : Share) (b o : ℕ) (γ : 
       ["(κs .0) (qs .0) (a .0 .ptr .0) (a .0 .ptr .1) (a .0 .name) (a .0 .now) (a .1 .0) (are .1 .0) C Λ"],
       ["goes-ref 𝓤 H A W 1 0 tt (plain (λ _. T.the-row))","goes-none 𝓤 H A W 1 (λ _. S.the-row) yes (λ κs x f. refl)"]))
 
-# ---- what `frame` and an arm of `step` share: from a ruling to the change that it makes
+# ---- what `frame`, `write` and the arms of `step` share
 rows=Callee("rows","controller","events.row_of")
 cp=lambda i:f"copyᴹ (placeᴹ {i} [])"
 LOOK="""use Prim.Native.Nat.{_+_, _*_}
@@ -369,10 +369,10 @@ use mir.Syntax.{tyPtr, op2, unsigned, mul, offset, int as intᴹ}
 use denote.Index.{place-is}
 use Rattle.contents.specs.Bytes.{noContents}
 use Rattle.controller.specs.Carry.{rowAt}
-use Rattle.controller.specs.Code.{rowIndex, windowRow, rulingFor, slotRuling, eventChange, rulingChange, ruled, roomSent, readAnswer, controlChange, writeChange}
-use Rattle.controller.specs.CodeLaws.{sync-changes, sync-due-changes, fault-changes, timeout-changes, frame-ruled, slot-ruled}
+use Rattle.controller.specs.Code.{rowIndex, windowRow, rulingFor, slotRuling, eventChange, frameChange, slotChange, roomSent, readAnswer, controlChange, writeChange}
+use Rattle.controller.specs.CodeLaws.{sync-changes, sync-due-changes, fault-changes, timeout-changes, frame-changes}
 use Rattle.controller.specs.AccessLaws.{read-answers, write-changes}
-use Rattle.controller.proofs.EventLaws.{ruling-changes, slot-sends}
+use Rattle.controller.proofs.EventLaws.{slot-changes, slot-sends}
 use Rattle.controller.proofs.RegisterLaws.{control-changes}
 use Rattle.in_place.proofs.Element.{elem-at}
 use Rattle.in_place.proofs.Rows.{at-rows, values, value-at, row-below, window-below, byte-fits, sixteen-rows, sixteen-values, in-rows, row-is, control-is}"""
@@ -458,18 +458,12 @@ def indexed(w,c,to,ask,args,ops,at):
 def changes(w,LT,ctx,x,end):
     """the change x lands in its local, and end follows"""
     w.land(x,LT[x],Cha.typed("x","is"),Cha.same("x","is")); w.keep(ctx); w.emit(end)
-def ruled_so(bytes): return f"(ap (changed h) d ∙ ruling-changes h sixteen {bytes} _ r (ap (rowAt (h .rows)) p) ∙ e)"
-def ruling(lemma,w,LT,ctx,val,held,ys,L,r,x,codes,q,bytes,goal,pre,given,change,end,tag="ruling",after=None):
-    """the lemmas of a ruling r that gives the step; bytes: the frame's; pre, given: what else is known; change: the call's text, of which d is what it says; after: the context that it leaves"""
-    at="i ≡ rowIndex (r .verdict)"; FACT=f"x ≡ rulingChange r ({ROW}) {bytes}"
-    looks(lemma,w,LT,ctx,{**val,r:Rul.val("r")},held,ys,L,codes,q,tag,f"(r : Ruling) → {Rul.is_('r')} → ruled h {bytes} r ≡ {goal} → "+pre,f"r r-is e {given}".strip(),
-      lambda w:indexed(w,rows,"(to-rows r)","(asked-rows r r-is)","(r, tt)",lambda:[w.load(r)],at),at,"(row-below (r .verdict) i p)",lambda w:(change(w,FACT),changes(w,LT,after or ctx,x,end)))
 
 def frame():
-    ruler=Callee("ruler","controller","events.frame_ruling"); changer=Callee("changer","controller","events.ruling_change"); carries=Callee("carries",crate,"carry"); CS=[ruler,rows,changer,carries]
+    ruler=Callee("ruler","controller","events.frame_ruling"); changer=Callee("changer","controller","events.frame_change"); carries=Callee("carries",crate,"carry"); CS=[ruler,changer,carries]
     SL="sliceTy (tyRef (named 1) imm (tyInt w8))"
-    LT=[Ans.mir(),"tyRef (named 0) mut rec-ty","tyBool",SL,Rul.mir(),"tyInt w64",Row.mir(),"out-ty",Con.mir(),"tyInt w64","tyPtr","tyPtr",Row.mir(),"tyRef erased mut rec-ty"]; N=len(LT)
-    L=Look(5,6,9,10,11,12); CELLS=[f"_{i}" for i in range(N)]; DIES=[f"d{i}" for i in range(N)]; ALL=CELLS+DIES
+    LT=[Ans.mir(),"tyRef (named 0) mut rec-ty","tyBool",SL,Rul.mir(),"out-ty",Con.mir(),"tyRef erased mut rec-ty"]; N=len(LT)
+    CELLS=[f"_{i}" for i in range(N)]; DIES=[f"d{i}" for i in range(N)]; ALL=CELLS+DIES
     val={1:"vptr b o",2:"vbool good",3:"s-f"}; had=["rec","tok","f","t-f"]; HELD={"rec":"‵ Rec","tok":TOK,"f":"‵ Bytes","t-f":TF}
     lemmas=[]
     def lemma(com,name,pre,lhs,code,q,start,body):
@@ -489,21 +483,22 @@ def frame():
         called(w,c,to,args,ops(),T,x,"v","(κ-f, tt)",f"({TF} ⊛ ‵ ftrue)",row,fact,e); w.ctx=["lasts","out"]+w.ctx[2:]
         w.emit("drop ! $ split ! $ "); w.give(2,["toks","own"]); w.to(["own"])
     # ---- the ruling
-    start=(list(w.ctx),LT,dict(val),HELD); opens(w); w.nl(); copies(w,8); closes(w)
-    passed(ruler,"to-ruler","args-ruler","(asked-ruler was)",lambda:[w.load(8),w.load(2),w.load(3)],"Ruling","r",Rul.row(),"r ≡ rulingFor h (frameStep good f)","e")
+    start=(list(w.ctx),LT,dict(val),HELD); opens(w); w.nl(); copies(w,6); closes(w)
+    passed(ruler,"to-ruler","args-ruler","(asked-ruler was)",lambda:[w.load(6),w.load(2),w.load(3)],"Ruling","r",Rul.row(),"r ≡ rulingFor h (frameStep good f)","e")
     w.emit(Rul.peeks("r","(v ∷ [])")+"(λ is. drop ! $ split ! $\n"); w.give(2,["t-f","true"]); w.land(4,LT[4],Rul.typed("r","is"),Rul.same("r","is"))
-    HAS=["obs","bor","tok","f","t-f"]; ctx=HAS+ALL; w.keep(ctx); w.emit("finding-ruling r (ruling-is r _ is) (ap (ruled h f) e ∙ frame-ruled h good f)"); first=w.text()
+    HAS=["obs","bor","tok","f","t-f"]; ctx=HAS+ALL; w.keep(ctx); w.emit("changing r (ruling-is r _ is) (frame-changes h (sixteen-rows h was) good f r e)"); first=w.text()
     held={"obs":OBS("h"),"bor":BOR,"tok":TOK,"f":"‵ Bytes","t-f":TF}
     # ---- the change is carried out, and the `return`
-    ys=[8,4,5,6,9,10,11,12]; start2=(ctx,LT,{**val,**{i:f"y{i}" for i in ys},7:Cha.val("x")},held); w.ctx=list(ctx)
-    lends(w,carries,13,"(to-carry x)","(asked-carry x x-is)","(args-carry x)",[7],CARRIED); w.land(0,LT[0],Ans.typed("m","is"),Ans.same("m","is"))
+    ys=[4,6]; start2=(ctx,LT,{**val,**{i:f"y{i}" for i in ys},5:Cha.val("x")},held); w.ctx=list(ctx)
+    lends(w,carries,7,"(to-carry x)","(asked-carry x x-is)","(args-carry x)",[5],CARRIED); w.land(0,LT[0],Ans.typed("m","is"),Ans.same("m","is"))
     end=["res","tok","f","t-f"]; w.emit(f"returns ! (look ! {w.cell(0)} refl) $ "); w.free(N,range(N)); w.keep(end)
     w.emit(f"by ! (exits (ws .0) m ({ENDS}) (answer-is m _ is))")
-    lemma("-- the change is carried out, the record being lent again at its own lifetime","carrying",us(ys)+f"(x : Change) → {Cha.is_('x')} → changed h x ≡ {GOAL} → ","carrying x x-is e",piece(10),RET,start2,w.text())
-    def change(w,fact):
-        passed(changer,f"(to-changer r ({ROW}))",f"(args-changer r ({ROW}))",f"(asked-changer r ({ROW}) r-is k-is)",lambda:[w.load(4),w.load(6),w.load(3)],"Change","x",Cha.row(),fact,"d")
-        w.emit(Cha.peeks("x","(v ∷ [])")+"(λ is. drop ! $ split ! $\n"); w.give(2,["t-f","true"])
-    ruling(lemma,w,LT,ctx,val,held,[8],L,4,7,codes("ruling"),RET,"f",GOAL,"","",change,"carrying x (change-is x _ is) "+ruled_so("f"))
+    lemma("-- the change is carried out, the record being lent again at its own lifetime","carrying",us(ys)+f"(x : Change) → {Cha.is_('x')} → changed h x ≡ {GOAL} → ","carrying x x-is e",piece(4),RET,start2,w.text())
+    # ---- the change
+    start3=(ctx,LT,{**val,6:"y6",4:Rul.val("r")},held); w.ctx=list(ctx)
+    passed(changer,"(to-changer r)","(args-changer r)","(asked-changer r r-is)",lambda:[w.load(4),w.load(3)],"Change","x",Cha.row(),"x ≡ frameChange r f","d")
+    w.emit(Cha.peeks("x","(v ∷ [])")+"(λ is. drop ! $ split ! $\n"); w.give(2,["t-f","true"]); changes(w,LT,ctx,5,"carrying x (change-is x _ is) (ap (changed h) d ∙ e)")
+    lemma("-- what the ruling changes",f"changing",us([6])+f"(r : Ruling) → {Rul.is_('r')} → changed h (frameChange r f) ≡ {GOAL} → ","changing r r-is e",piece(3),RET,start3,w.text())
     lemma("-- the record is copied out, and the frame's ruling is had","ruling","","ruling",piece(1),RET,start,first)
     # ---- what is asked, and what is had at exit
     w=Walk(6); w.ctx=list(end); w.emit("nothing ! $ "); w.give(0,["t"]); w.to(["t-f","t"]); w.emit("join ! $ "); w.give(2,["t"]); w.to(["tok","t"]); w.emit("join ! $ frame ! $\n"); w.give(2,[])
@@ -511,13 +506,13 @@ def frame():
     def asks(owns):
         w=Walk(6); w.ctx=["t-f","f"]; w.emit("nothing ! $ "); w.give(0,["t"]); w.to(["t-f","t"]); w.emit("join ! $ nothing ! $ "); w.give(2,["X","t"]); w.to(["f","X"]); w.emit("fjoin ! $ "+owns+CLOSE); return w.text()
     GL="(κ, (κ-f, tt))"; GQ="(q, (q-f, tt))"; bound=f"(({GL}, {GQ}, tt, a, at), tt)"; held2=f"({TF} ∷ ‵ Bytes ∷ [])"; nl=chr(10)
-    put(f"""-- `in_place::frame` meets its contract: a walk of its MIR. The borrow is opened for a copy of the record, from which the ruling is had, and again for the one row that the ruling looks at; what it changes is carried out by `carry`, to which the
+    put(f"""-- `in_place::frame` meets its contract: a walk of its MIR. The borrow is opened for a copy of the record, from which the ruling is had; what it changes, which is of the frame alone, is carried out by `carry`, to which the
 -- reference goes on at its own lifetime. All that the proof knows of the functions called is that they meet their contracts. Written by tools/gen_in_place.py.
 {HEAD}
 use Rattle.rules.specs.Steps.{{frame as frameStep}}
 {SESSION}
 {LOOK}
-{nl.join(d.uses() for d in (Con,Cha,Rul,Row,Ans))}
+{nl.join(d.uses() for d in (Con,Cha,Rul,Ans))}
 use Rattle.rules.proofs.Control.Laws as {Ctl.a}′
 {nl.join(c.uses() for c in CS)}
 {THIS}
@@ -535,8 +530,6 @@ stayed = (gave-ref (0 ∷ []) tt (plain (λ _. T.the-row)), (stay-none (λ _. bo
 {RULING_IS}
 {ANSWER_IS}
 
--- the code from the row on, written out: taken from the function's own it costs the kernel more
-{L.code("ruling",f"callᴹ #rows ({cp(4)} ∷ [])",piece(9))}
 module _ {G} (W : Given 𝓤 H A) {AM} (κ κ-f : Lft) (q q-f : Share) (b o : ℕ) (γ : GName) (h : Controller) (good : Bool) (b-f o-f : ℕ) (γ-f : GName) (f : List ℕ) (f-room : Room u8 (length f)) where
 {REC}
 {REC_OWN}
@@ -561,15 +554,14 @@ module _ {G} (W : Given 𝓤 H A) {AM} (κ κ-f : Lft) (q q-f : Share) (b o : �
   asked-ruler : {Con.is_("h")} → ent 𝓤 (⋆ 𝓤 H A {held2}) ({ruler.at()} .pre to-ruler)
   asked-ruler was = qed W {held2} ∵ {asks(owned("good","bool")+Con.owned("h","was")+"fjoin ! $ ")}
 
-{ASK_ROWS}
-  abbrev args-changer : Ruling → Contents → Ruling × (Contents × (RefT (List ℕ) × Unit {{0}}))
-  args-changer r k = (r, (k, (f-ref, tt)))
+  abbrev args-changer : Ruling → Ruling × (RefT (List ℕ) × Unit {{0}})
+  args-changer r = (r, (f-ref, tt))
 
-  abbrev to-changer : Ruling → Contents → {changer.at()} .Ghost
-  to-changer r k = (((κ-f, tt), (q-f, tt), tt, args-changer r k, ({Rul.val("r")} ∷ [], ({Row.val("k")} ∷ [], (s-f ∷ [], tt)))), tt)
+  abbrev to-changer : Ruling → {changer.at()} .Ghost
+  to-changer r = (((κ-f, tt), (q-f, tt), tt, args-changer r, ({Rul.val("r")} ∷ [], (s-f ∷ [], tt))), tt)
 
-  asked-changer : (r : Ruling) (k : Contents) → {Rul.is_("r")} → {Row.is_("k")} → ent 𝓤 (⋆ 𝓤 H A {held2}) ({changer.at()} .pre (to-changer r k))
-  asked-changer r k r-is k-is = qed W {held2} ∵ {asks(Row.owned("k","k-is")+"fjoin ! $ "+Rul.owned("r","r-is")+"fjoin ! $ ")}
+  asked-changer : (r : Ruling) → {Rul.is_("r")} → ent 𝓤 (⋆ 𝓤 H A {held2}) ({changer.at()} .pre (to-changer r))
+  asked-changer r r-is = qed W {held2} ∵ {asks(Rul.owned("r","r-is")+"fjoin ! $ ")}
 
 {ask_carry(carries)}
   module _ (C : Calls 𝓤 H) (Λ : Loops 𝓤 H) (fm : FmC 𝓤 H (W .laws) C) {" ".join(f"(known-{c.a} : {c.triple('C')})" for c in CS)} where
@@ -869,16 +861,20 @@ def step():
             lends(w,carries,a.ref,"(to-carry x)","(asked-carry x x-is)","(args-carry x)",[a.out],CARRIED,last=True); w.land(ANS,LT[ANS],Ans.typed("m","is"),Ans.same("m","is"),last=True)
             ended(sorted(mine+[a.ref]),"(ws .0)","m","zs",f"({ENDS}, z) (answer-is m _ is) l")
             lemma(f"-- what `{a.con}` changes is carried out",f"carried-{a.low}",us(ys)+f"(x : Change) → {Cha.is_('x')} → changed h x ≡ doneOf (stepOf h ({STEP})) → (zs : List ℕ) → zs ≡ roomFor h call room → length zs ≡ length room → ",f"carried-{a.low} x x-is e zs z l",f"(carrying {a.ref} {a.out})",NEXT,start,w.text())
-        held={"obs":OBS("h"),"bor":BOR,"tok":TOK,**LENT,"t-room":TROOM,"fin":FIN.replace("zs","room"),"room":"‵ Room′"}; k_=f"r ({ROW})"; SAYS=f"carried-{a.low} x (change-is x _ is) "+ruled_so("[]")
+        held={"obs":OBS("h"),"bor":BOR,"tok":TOK,**LENT,"t-room":TROOM,"fin":FIN.replace("zs","room"),"room":"‵ Room′"}; k_=f"r ({ROW})"; SENT="rowAt (h .rows) (rowIndex (r .verdict))"
         if a.room:
             # the room goes on with the change
             HAS_ROOM=["obs","bor","tok","f","t-f","room","t-room"]; zs="(ws .1 .1 .0)"
-            def change(w,fact):
+            at="i ≡ rowIndex (r .verdict)"
+            def change(w):
                 w.again(4,a.ptr,a.agg,"room-room"); w.to(["t-room","room"]); w.emit(f"group ! 2 $ use1 W (raw ({filled.at()} .pre (to-filled {k_}))) (asked-filled {k_} r-is k-is) $\n"); w.give(2,["pre"])
-                called(w,filled,f"(to-filled {k_})",f"(args-filled {k_})",[w.load(a.r),w.load(a.row),w.load(a.agg)],"Change","x","v","(κ-room, tt)",f"({TROOM} ⊛ ‵ ftrue)",Cha.row(),[fact,f"(c : Controller) → {ROW} ≡ rowAt (c .rows) (rowIndex (r .verdict)) → {zs} ≡ roomSent (c .rows) room (r .verdict)"],["d","z₁"])
+                called(w,filled,f"(to-filled {k_})",f"(args-filled {k_})",[w.load(a.r),w.load(a.row),w.load(a.agg)],"Change","x","v","(κ-room, tt)",f"({TROOM} ⊛ ‵ ftrue)",Cha.row(),[f"x ≡ slotChange r ({ROW})",f"(c : Controller) → {ROW} ≡ rowAt (c .rows) (rowIndex (r .verdict)) → {zs} ≡ roomSent (c .rows) room (r .verdict)"],["d","z₁"])
                 w.ctx=["lasts","out"]+w.ctx[2:]; w.emit("fsplit ! $ drop ! $ fsplit ! $ drop ! $ fsplit ! $ fsplit ! $ move ! (1 ∷ []) $ feqL ! (λ l.\n"); w.give(1,["fin","true"])
                 w.to(["out"]); w.emit("split ! $ "); w.give(1,["toks","own"]); w.to(["own"]); w.emit(Cha.peeks("x","(v ∷ [])")+"(λ is. drop ! $ split ! $\n"); w.give(2,["t-room","true2"])
-            ruling(lemma,w,LT,HAS_ROOM+ALL,val,held,[2]+a.locs+[a.copy],a.L,a.r,a.out,codes(a.low),NEXT,"[]",f"doneOf (stepOf h ({STEP}))","roomSent (h .rows) room (r .verdict) ≡ roomFor h call room → ","z",change,SAYS+f" {zs} (z₁ h (ap (rowAt (h .rows)) p) ∙ z) l",a.low,HAS+ALL)
+                changes(w,LT,HAS+ALL,a.out,f"carried-{a.low} x (change-is x _ is) (ap (changed h) d ∙ e _ (ap (rowAt (h .rows)) p)) {zs} (z₁ h (ap (rowAt (h .rows)) p) ∙ z) l")
+            looks(lemma,w,LT,HAS_ROOM+ALL,{**val,a.r:Rul.val("r")},held,[2]+a.locs+[a.copy],a.L,codes(a.low),NEXT,a.low,
+              f"(r : Ruling) → {Rul.is_('r')} → ((k : Contents) → k ≡ {SENT} → changed h (slotChange r k) ≡ doneOf (stepOf h ({STEP}))) → roomSent (h .rows) room (r .verdict) ≡ roomFor h call room → ","r r-is e z",
+              lambda w:indexed(w,rows,"(to-rows r)","(asked-rows r r-is)","(r, tt)",lambda:[w.load(a.r)],at),at,"(row-below (r .verdict) i p)",change)
         if a.window:
             # the control state is read, then the row of its window; the room is not passed
             known_={**val,**{i:value(n,k) for i,(n,k) in zip(a.locs,a.vars)},a.d:Ctl.val("h .control")}
@@ -906,7 +902,7 @@ def step():
         called(w,a.fn,a.to(),a.args(),ops,T,res,"v","tt","‵ ftrue",D.row(),says,"e"); kept_as(w,D,res)
         k=a.r if a.rules else a.out
         w.land(k,LT[k],D.typed(res,"is"),D.same(res,"is")); then="ap (λ (s : Step). doneOf (stepOf h s)) s"
-        if a.room: w.emit(f"forget ! {w.cell(a.L.mul)} refl $ "); w.keep(HAS_ROOM+ALL); w.emit(f"finding-{a.low} r (ruling-is r _ is) (ap (ruled h []) e ∙ slot-ruled h n room ∙ {then}) (ap (λ (r : Ruling). roomSent (h .rows) room (r .verdict)) e ∙ slot-sends h (sixteen-rows h was) n room ∙ z)")
+        if a.room: w.emit(f"forget ! {w.cell(a.L.mul)} refl $ "); w.keep(HAS_ROOM+ALL); w.emit(f"finding-{a.low} r (ruling-is r _ is) (λ k same. slot-changes h (sixteen-rows h was) n room r e k same ∙ {then}) (ap (λ (r : Ruling). roomSent (h .rows) room (r .verdict)) e ∙ slot-sends h (sixteen-rows h was) n room ∙ z)")
         else: w.keep(HAS+ALL); w.emit(f"carried-{a.low} x (change-is x _ is) (ap (changed h) e ∙ {' '.join([a.law,'h']+a.names())} ∙ {then}) room z refl")
         left=f"stepOf h ({a.step}) .room" if a.room else "room"
         lemma(f"-- {a.con}",f"on-{a.low}",us([2])+(a.binders() if a.vars else "")+"→ "+a.facts()+f"{a.step} ≡ {STEP} → {left} ≡ roomFor h call room → ",f"on-{a.low} {given} s z".replace("  "," "),f"code-{a.low}",NEXT,start,w.text())

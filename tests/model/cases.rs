@@ -8,7 +8,7 @@ const NONE: u8 = 0x10;
 
 pub type Test = fn(&Taken) -> bool;
 
-pub const CASES: [(&str, Test); 52] = [
+pub const CASES: [(&str, Test); 54] = [
     (
         "held off though a later buffer carries the identifier",
         held_off_with_another,
@@ -18,6 +18,12 @@ pub const CASES: [(&str, Test); 52] = [
     }),
     ("queued with a length byte above 12", |t| {
         queues(t) && length_byte(t) > 12
+    }),
+    ("stored over a longer message", |t| {
+        matches!(t.answer, Answer::Stored(buffer) if has_bytes_behind(t, buffer))
+    }),
+    ("queued over a longer message", |t| {
+        matches!(t.answer, Answer::Queued(place) if has_bytes_behind(t, place))
     }),
     ("queued with acceptance mask $FF", |t| {
         queues(t) && t.before.acceptance.mask == 0xFF
@@ -175,6 +181,14 @@ fn length_byte(t: &Taken) -> u8 {
         Step::Frame(_, bytes) => bytes[1] & 0x0F,
         _ => 0,
     }
+}
+
+/// The buffer had a byte other than 0 behind the frame's data.
+fn has_bytes_behind(t: &Taken, buffer: u8) -> bool {
+    let Step::Frame(_, bytes) = t.step else {
+        return false;
+    };
+    t.before.contents[usize::from(buffer)][bytes.len()..] != [0; 14][bytes.len()..]
 }
 
 fn held_off_with_another(t: &Taken) -> bool {

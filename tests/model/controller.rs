@@ -735,12 +735,14 @@ impl Controller {
         Answer::Queued(place)
     }
 
-    /// Data bytes past the stored length stay as they were.
+    /// Nothing of an older frame is left: data bytes past the stored length are 0.
     fn store(&mut self, buffer: u8, identifier: u8, data: &[u8]) {
         let contents = &mut self.contents[buffer as usize];
         contents[0] = identifier;
         contents[1] = data.len() as u8;
-        contents[2..2 + data.len()].copy_from_slice(data);
+        let (stored, behind) = contents[2..].split_at_mut(data.len());
+        stored.copy_from_slice(data);
+        behind.fill(0);
     }
 
     fn slot(&mut self, slot: u8, room: &mut [u8]) -> Answer {

@@ -1,5 +1,5 @@
 -- A buffer's fourteen bytes: identifier, length, data 0 to 11 (document 01, 'What is emulated', 'Bus steps').
-use Prim.Native.Nat.{ℕ, zero, suc, _+_, _%_, min}
+use Prim.Native.Nat.{ℕ, zero, suc, _-_, _%_, min}
 use mathlib.Core.List.{List, [], _∷_, _++_}
 use lib.ListN.{getD, set, take, drop, length, replicate}
 use Rattle.contents.specs.declared.Contents.{Contents}
@@ -45,10 +45,15 @@ cut l = min 12 (l % 16)
 abbrev pub taken : ℕ → List ℕ → ℕ
 taken l d = min (cut l) (length d)
 
--- "Storing puts the identifier, the smaller of 12 and the length byte's low four bits, and that many data bytes; later
--- bytes stay": identifier i, length byte l and data part d over the contents b
-unfoldable pub storeFrame : Contents → ℕ → ℕ → List ℕ → Contents
-storeFrame b i l d = record { bytes = i ∷ (cut l ∷ (take (taken l d) d ++ drop (2 + taken l d) (b .bytes))) }
+-- "Storing puts the identifier, the smaller of 12 and the length byte's low four bits, and that many data bytes", and as W4 amends
+-- it "sets the data bytes beyond its length to 0": identifier i, length byte l and data part d
+unfoldable pub storeFrame : ℕ → ℕ → List ℕ → Contents
+storeFrame i l d = record { bytes = i ∷ (cut l ∷ (take (taken l d) d ++ replicate (12 - taken l d) 0)) }
+
+-- What a buffer holds once the frame f is stored in it, of the frame alone: identifier, length byte, and "one slice whose data part
+-- begins at byte 2"
+abbrev pub imageOf : List ℕ → Contents
+imageOf f = storeFrame (getD f 0 0) (getD f 1 0) (drop 2 f)
 
 -- the k bytes from place i on
 unfoldable pub bytesFrom : ℕ → ℕ → List ℕ → List ℕ

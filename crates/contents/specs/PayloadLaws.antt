@@ -69,9 +69,9 @@ head-data b j v = go (b .bytes)
     go (x ∷ []) = refl
     go (x ∷ (y ∷ xs)) = refl
 
-pub head-store : (b : Contents) (i l : ℕ) (d : List ℕ) → headOf (storeFrame b i l d) ≡ record { ident = i; len = cut l }
+pub head-store : (i l : ℕ) (d : List ℕ) → headOf (storeFrame i l d) ≡ record { ident = i; len = cut l }
 unfolding storeFrame
-head-store b i l d = refl
+head-store i l d = refl
 
 -- ---- the room of a sent frame
 

@@ -1,4 +1,4 @@
--- Laws of the bus events' proofs: a frame's size, the bytes of a buffer, also past the last, the room, and what a ruling changes.
+-- Laws of the bus events' proofs: a frame's size, the bytes of a buffer, also past the last, the room, and what a slot's ruling changes.
 use Prim.Native.Nat.{ℕ, _+_, _%_, _≤_, _<_}
 use mathlib.Core.Bool.{Bool, true, false, not}
 use mathlib.Core.List.{List}
@@ -14,16 +14,19 @@ use Rattle.contents.specs.Code.{wellSized}
 use Rattle.sending.specs.CodeRoom.{room-filled}
 use Rattle.rules.specs.Refusals.{refuses11}
 use Rattle.rules.specs.Steps.{slot}
+use Rattle.rules.specs.Plan.{Plan}
+use Rattle.bus_steps.specs.Code.{rulingOf}
+use Rattle.bus_steps.specs.CodeLaws.{SlotPlan, says, sends}
 use Rattle.rules.specs.declared.Answer.the-variants.{Sent}
-use Rattle.rules.specs.declared.Control.{Control}
 use Rattle.rules.specs.declared.Ruling.{Ruling}
 use Rattle.rules.specs.declared.Verdict.{Verdict}
 use Rattle.rules.specs.declared.Verdict.the-variants.{Say, Store, Send}
 use Rattle.controller.specs.declared.Controller.{Controller}
-use Rattle.controller.specs.Carry.{rowAt}
+use Rattle.controller.specs.Carry.{rowAt, moveAll, carry}
 use Rattle.controller.specs.Session.{stepOf}
-use Rattle.controller.specs.Code.{answered, changed, slotRuling, rowIndex, bytesAt, rowBytes, frameOver, changeBy, rulingChange, roomBy, roomSent, ruled}
-use Rattle.controller.specs.CodeLaws.{row-own, says-only, puts-row, slot-refused, slot-room}
+use Rattle.controller.specs.Calls.{doneOf}
+use Rattle.controller.specs.Code.{answered, changed, slotRuling, rowIndex, bytesAt, rowBytes, slotChange, roomBy, roomSent}
+use Rattle.controller.specs.CodeLaws.{row-own, says-only, by-plan, slotPlan, slot-plain, slot-sized, slot-refused, slot-room}
 
 -- ---- a frame's size
 
@@ -87,18 +90,23 @@ slot-sends c sixteen i room = by-test (ltb (length room) 14) small large ∙ slo
     large : ltb (length room) 14 ≡ false → roomSent (c .rows) room (r .verdict) ≡ roomBy (c .rows) room (r .verdict)
     large t = sent-room (c .rows) room (r .verdict) sixteen (ltb-false (length room) 14 t)
 
--- ---- a ruling as a change does to the record what the ruling says, row being that of its buffer
+-- ---- a slot's ruling as a change does to the record what the rules say, row being that of the buffer that is sent
 
-module _ (c : Controller) (sixteen : length (c .rows) ≡ 16) (f : List ℕ) (row : Contents) where
-  verdict-changes : (d : Control) (v : Verdict) → row ≡ rowAt (c .rows) (rowIndex v) → changed c (changeBy d row f v) ≡ ruled c f (record { next = d; verdict = v })
-  unfolding ruled
-  verdict-changes d (Say a) e = says-only c d a
-  verdict-changes d (Store n a) e = puts-row c d a (frameOver f) n row sixteen e
-  verdict-changes d (Send n) e =
+module _ (c : Controller) (sixteen : length (c .rows) ≡ 16) (i : ℕ) (room : List ℕ) where
+  slot-answers : (row : Contents) (p : Plan) → SlotPlan p → row ≡ rowAt (c .rows) (rowIndex (rulingOf p .verdict)) →
+      changed c (slotChange (rulingOf p) row) ≡ doneOf (carry (slot i room) (c .rows) p)
+  unfolding carry moveAll slotChange
+  slot-answers row p (says d a) e = says-only c d a
+  slot-answers row p (sends d n) e =
       says-only c d _
       ∙ ap (λ (x : List ℕ). answered (record { control = d; rows = c .rows }) (Sent (length x)))
       (ap (λ (x : List ℕ). frameOf (record { bytes = x })) (row-bytes (c .rows) n row e) ∙ frame-row (c .rows) n sixteen)
 
-  pub ruling-changes : (r : Ruling) → row ≡ rowAt (c .rows) (rowIndex (r .verdict)) → changed c (rulingChange r row f) ≡ ruled c f r
-  unfolding rulingChange
-  ruling-changes r e = verdict-changes (r .next) (r .verdict) e
+  -- r being the slot's ruling
+  pub slot-changes : (r : Ruling) → r ≡ slotRuling c i (length room) → (row : Contents) → row ≡ rowAt (c .rows) (rowIndex (r .verdict)) →
+      changed c (slotChange r row) ≡ doneOf (stepOf c (slot i room))
+  slot-changes r e row same =
+      let told = e ∙ slot-sized c i room in
+      ap (λ (x : Ruling). changed c (slotChange x row)) told
+      ∙ slot-answers row (slotPlan c i room) (slot-plain c i room) (same ∙ ap (λ (x : Ruling). rowAt (c .rows) (rowIndex (x .verdict))) told)
+      ∙ sym (by-plan c (slot i room) _ refl)

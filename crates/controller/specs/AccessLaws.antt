@@ -25,14 +25,13 @@ use Rattle.rules.specs.Reads.{valueOf, windowReply, replyIn, readReply}
 use Rattle.rules.specs.Writes.{written, windowMoves, movesIn, writeMoves}
 use Rattle.rules.specs.Refusals.{refuses1, firstOf, readRefusal, writeRefusal, refusal}
 use Rattle.rules.specs.Rules.{act, decide}
-use Rattle.bus_steps.specs.CodeLaws.{says}
 use Rattle.controller.specs.declared.Controller.{Controller}
 use Rattle.controller.specs.Carry.{heads, rowAt, moveAll, answerOf, carry}
 use Rattle.controller.specs.Session.{stepOf}
 use Rattle.controller.specs.ViewLaws.{head-at}
 use Rattle.controller.specs.Calls.{doneOf}
-use Rattle.controller.specs.Code.{answered, changed, ruled, holderIn, holderOf, windowRow, windowByte, valueIn, registerValue, readAnswer, writePlace, windowChange, changeIn, registerChange, writeChange}
-use Rattle.controller.specs.CodeLaws.{step-plain, by-plan, row-own, says-only, puts-row}
+use Rattle.controller.specs.Code.{answered, changed, holderIn, holderOf, windowRow, windowByte, valueIn, registerValue, readAnswer, writePlace, windowChange, changeIn, registerChange, writeChange}
+use Rattle.controller.specs.CodeLaws.{step-plain, by-plan, plain-done, row-own, says-only, puts-row}
 
 -- ---- register reads
 
@@ -119,8 +118,8 @@ module _ (c : Controller) (sixteen : length (c .rows) ≡ 16) (a : ℕ) where
   read-accepted e = ap doneOf (read-plan e) ∙ ap (λ (x : Answer). answered c x) (sym (register-value (registerAt a) (data-place a (low-address e))))
 
   read-refused : eqb (readRefusal (c .control) a) 0 ≡ false → doneOf (stepOf c (read a)) ≡ answered c (Refused (readRefusal (c .control) a))
-  unfolding decide refusal ruled
-  read-refused t = by-plan c (read a) _ (pick-false (eqb (readRefusal (c .control) a) 0) _ _ t) (says (c .control) (Refused (readRefusal (c .control) a)))
+  unfolding decide refusal
+  read-refused t = by-plan c (read a) _ (pick-false (eqb (readRefusal (c .control) a) 0) _ _ t) ∙ plain-done c (read a) (c .control) _
 
   -- row being that of the window's holder
   pub read-answers : (row : Contents) → row ≡ rowAt (c .rows) (windowRow (c .control) (registerAt a)) → answered c (readAnswer (c .control) a row) ≡ doneOf (stepOf c (read a))
@@ -133,18 +132,36 @@ module _ (c : Controller) (sixteen : length (c .rows) ≡ 16) (a : ℕ) where
 
 -- ---- register writes
 
-module _ (c : Controller) (sixteen : length (c .rows) ≡ 16) (a v : ℕ) where
-  window-moves : (n p : ℕ) → set (c .rows) n (writePlace (rowAt (c .rows) n) p v) ≡ moveAll (write a v) (windowMoves n p v) (c .rows)
+module _ (c : Controller) (a v : ℕ) where
+  -- the move of a window is its place written
+  pub window-moves : (n p : ℕ) → set (c .rows) n (writePlace (rowAt (c .rows) n) p v) ≡ moveAll (write a v) (windowMoves n p v) (c .rows)
   unfolding windowMoves writePlace moveAll
   window-moves n p =
       by-test (eqb p 0) (λ t. simp (pick-true, t))
       (λ t. by-test (eqb p 1) (λ u. simp (pick-true, pick-false, t, u)) (λ u. simp (pick-false, t, u)))
 
+  write-plan : writeRefusal (c .control) a v ≡ 0 →
+      decide (c .control) (heads (c .rows)) (write a v)
+      ≡ record { control = written (c .control) (registerAt a) v; moves = writeMoves (c .control) (registerAt a) v; reply = say Ok }
+  unfolding decide refusal act pick
+  write-plan e = simp e
+
+  pub write-accepted : writeRefusal (c .control) a v ≡ 0 →
+      doneOf (stepOf c (write a v))
+      ≡ answered (record { control = written (c .control) (registerAt a) v; rows = moveAll (write a v) (writeMoves (c .control) (registerAt a) v) (c .rows) }) Ok
+  unfolding carry
+  write-accepted e = by-plan c (write a v) _ (write-plan e)
+
+  pub write-refused : eqb (writeRefusal (c .control) a v) 0 ≡ false → doneOf (stepOf c (write a v)) ≡ answered c (Refused (writeRefusal (c .control) a v))
+  unfolding decide refusal
+  write-refused t = by-plan c (write a v) _ (pick-false (eqb (writeRefusal (c .control) a v) 0) _ _ t) ∙ plain-done c (write a v) (c .control) _
+
+module _ (c : Controller) (sixteen : length (c .rows) ≡ 16) (a v : ℕ) where
   window-changes : (d : Control) (n p : ℕ) (row : Contents) → row ≡ rowAt (c .rows) (n % 16) →
       changed c (windowChange d n p v row) ≡ answered (record { control = d; rows = moveAll (write a v) (windowMoves n p v) (c .rows) }) Ok
   window-changes d n p row e =
       puts-row c d Ok (λ (b : Contents). writePlace b p v) n row sixteen e
-      ∙ ap (λ (rows : List Contents). answered (record { control = d; rows = rows }) Ok) (window-moves n p)
+      ∙ ap (λ (rows : List Contents). answered (record { control = d; rows = rows }) Ok) (window-moves c a v n p)
 
   region-changes : (d : Control) (g : Region) (row : Contents) → row ≡ rowAt (c .rows) (holderIn (c .control) g % 16) →
       changed c (changeIn (c .control) d row g v) ≡ answered (record { control = d; rows = moveAll (write a v) (movesIn (c .control) g v) (c .rows) }) Ok
@@ -159,27 +176,10 @@ module _ (c : Controller) (sixteen : length (c .rows) ≡ 16) (a v : ℕ) where
   unfolding registerChange holderOf writeMoves
   register-changes d r row e = region-changes d (regionOf r) row e
 
-  write-plan : writeRefusal (c .control) a v ≡ 0 →
-      decide (c .control) (heads (c .rows)) (write a v)
-      ≡ record { control = written (c .control) (registerAt a) v; moves = writeMoves (c .control) (registerAt a) v; reply = say Ok }
-  unfolding decide refusal act pick
-  write-plan e = simp e
-
-  write-accepted : writeRefusal (c .control) a v ≡ 0 →
-      doneOf (stepOf c (write a v))
-      ≡ answered (record { control = written (c .control) (registerAt a) v; rows = moveAll (write a v) (writeMoves (c .control) (registerAt a) v) (c .rows) }) Ok
-  unfolding carry
-  write-accepted e = ap doneOf (step-plain c (write a v) ∙ ap (carry (write a v) (c .rows)) (write-plan e))
-
-  write-refused : eqb (writeRefusal (c .control) a v) 0 ≡ false → doneOf (stepOf c (write a v)) ≡ answered c (Refused (writeRefusal (c .control) a v))
-  unfolding decide refusal ruled
-  write-refused t =
-      by-plan c (write a v) _ (pick-false (eqb (writeRefusal (c .control) a v) 0) _ _ t) (says (c .control) (Refused (writeRefusal (c .control) a v)))
-
   -- row being that of the window's holder
   pub write-changes : (row : Contents) → row ≡ rowAt (c .rows) (windowRow (c .control) (registerAt a)) → changed c (writeChange (c .control) a v row) ≡ doneOf (stepOf c (write a v))
   unfolding writeChange
   write-changes row e =
       by-test (eqb (writeRefusal (c .control) a v) 0)
-      (λ t. ap (changed c) (pick-true (eqb (writeRefusal (c .control) a v) 0) _ _ t) ∙ register-changes _ (registerAt a) row e ∙ sym (write-accepted (eqb-true (writeRefusal (c .control) a v) 0 t)))
-      (λ t. ap (changed c) (pick-false (eqb (writeRefusal (c .control) a v) 0) _ _ t) ∙ says-only c (c .control) _ ∙ sym (write-refused t))
+      (λ t. ap (changed c) (pick-true (eqb (writeRefusal (c .control) a v) 0) _ _ t) ∙ register-changes _ (registerAt a) row e ∙ sym (write-accepted c a v (eqb-true (writeRefusal (c .control) a v) 0 t)))
+      (λ t. ap (changed c) (pick-false (eqb (writeRefusal (c .control) a v) 0) _ _ t) ∙ says-only c (c .control) _ ∙ sym (write-refused c a v t))

@@ -1,10 +1,10 @@
 -- The data plane: a plan carried out on the buffers' bytes.
 use Prim.Native.Nat.{ℕ}
 use mathlib.Core.List.{List, [], _∷_, map}
-use lib.ListN.{getD, set, drop, length, replicate}
+use lib.ListN.{getD, set, length, replicate}
 use Rattle.masks.specs.Pick.{pick}
 use Rattle.contents.specs.declared.Contents.{Contents}
-use Rattle.contents.specs.Bytes.{Head, headOf, blank, noContents, dataAt, withIdent, withLength, withData, storeFrame, frameOf, fillRoom}
+use Rattle.contents.specs.Bytes.{Head, headOf, blank, noContents, dataAt, withIdent, withLength, withData, imageOf, frameOf, fillRoom}
 use Rattle.rules.specs.declared.Answer.{Answer}
 use Rattle.rules.specs.declared.Answer.the-variants.{Value, Sent}
 use Rattle.rules.specs.Steps.{Step, readsData, valueIn, frameIn, roomIn}
@@ -27,8 +27,7 @@ move e wipe rows = replicate 16 blank
 move e (setIdent n v) rows = set rows n (withIdent (rowAt rows n) v)
 move e (setLength n v) rows = set rows n (withLength (rowAt rows n) v)
 move e (setData n j) rows = set rows n (withData (rowAt rows n) j (valueIn e))
-move e (store n) rows =
-    set rows n (storeFrame (rowAt rows n) (getD (frameIn e) 0 0) (getD (frameIn e) 1 0) (drop 2 (frameIn e)))
+move e (store n) rows = set rows n (imageOf (frameIn e))
 
 unfoldable pub moveAll : Step → List Move → List Contents → List Contents
 moveAll e [] rows = rows

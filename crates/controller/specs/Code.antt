@@ -1,11 +1,11 @@
 -- What the controller's functions return, in the terms of the code: rulings, changes and answers, and what they do to the record.
 use Prim.Native.Nat.{ℕ, _+_, _-_, _%_}
 use mathlib.Core.List.{List}
-use lib.ListN.{getD, set, drop, length, replicate}
+use lib.ListN.{getD, set, length, replicate}
 use lib.Dec.{eqb, ltb}
 use Rattle.masks.specs.Pick.{pick}
 use Rattle.contents.specs.declared.Contents.{Contents}
-use Rattle.contents.specs.Bytes.{withIdent, withLength, withData, storeFrame, frameOf, fillRoom}
+use Rattle.contents.specs.Bytes.{withIdent, withLength, withData, imageOf, frameOf, fillRoom}
 use Rattle.sending.specs.CodeRoom.{roomAfter}
 use Rattle.rules.specs.declared.Answer.{Answer}
 use Rattle.rules.specs.declared.Answer.the-variants.{Ok, Value, Sent, Refused}
@@ -81,12 +81,22 @@ saidChange c r = saying (keptFrom c (r .next)) (saidBy (r .verdict))
 abbrev pub eventChange : Controller → Step → Change
 eventChange c e = saidChange (c .control) (rulingFor c e)
 
--- ---- a ruling as a change, from the row of its buffer, the step's frame being f
+-- ---- a frame's ruling as a change, the frame being f: no buffer's row is looked at, and nothing is ever sent
 
--- index of the row of a verdict's buffer; any row where it names none
+abbrev pub frameChangeBy : Control → List ℕ → Verdict → Change
+frameChangeBy d f (Say a) = saying d a
+frameChangeBy d f (Store n a) = putting d n (imageOf f .bytes) a
+frameChangeBy d f (Send n) = saying d Ok
+
+unfoldable pub frameChange : Ruling → List ℕ → Change
+frameChange r f = frameChangeBy (r .next) f (r .verdict)
+
+-- ---- a slot's ruling as a change, from the row of its buffer: nothing is ever stored
+
+-- index of the row of the buffer that is sent; any row where none is
 abbrev pub rowIndex : Verdict → ℕ
 rowIndex (Say a) = 0
-rowIndex (Store n a) = n % 16
+rowIndex (Store n a) = 0
 rowIndex (Send n) = n % 16
 
 -- the fourteen bytes of buffer n, zeros past the last
@@ -96,29 +106,13 @@ bytesAt n row = pick (ltb n 16) (row .bytes) (replicate 14 0)
 abbrev pub rowBytes : List Contents → ℕ → List ℕ
 rowBytes rows n = bytesAt n (rowAt rows n)
 
--- the frame f over a buffer's contents
-abbrev pub frameOver : List ℕ → Contents → Contents
-frameOver f row = storeFrame row (getD f 0 0) (getD f 1 0) (drop 2 f)
+abbrev pub slotAnswer : Contents → Verdict → Answer
+slotAnswer row (Say a) = a
+slotAnswer row (Store n a) = a
+slotAnswer row (Send n) = Sent (length (frameOf (record { bytes = bytesAt n row })))
 
-abbrev pub changeBy : Control → Contents → List ℕ → Verdict → Change
-changeBy d row f (Say a) = saying d a
-changeBy d row f (Store n a) = putting d n (frameOver f row .bytes) a
-changeBy d row f (Send n) = saying d (Sent (length (frameOf (record { bytes = bytesAt n row }))))
-
-unfoldable pub rulingChange : Ruling → Contents → List ℕ → Change
-rulingChange r row f = changeBy (r .next) row f (r .verdict)
-
--- ---- a ruling carried out
-
-abbrev pub rowsBy : List Contents → List ℕ → Verdict → List Contents
-rowsBy rows f (Say a) = rows
-rowsBy rows f (Store n a) = set rows n (frameOver f (rowAt rows n))
-rowsBy rows f (Send n) = rows
-
-abbrev pub answerBy : List Contents → Verdict → Answer
-answerBy rows (Say a) = a
-answerBy rows (Store n a) = a
-answerBy rows (Send n) = Sent (length (frameOf (rowAt rows n)))
+unfoldable pub slotChange : Ruling → Contents → Change
+slotChange r row = saying (r .next) (slotAnswer row (r .verdict))
 
 -- the room afterwards
 abbrev pub roomBy : List Contents → List ℕ → Verdict → List ℕ
@@ -131,9 +125,6 @@ abbrev pub roomSent : List Contents → List ℕ → Verdict → List ℕ
 roomSent rows room (Say a) = room
 roomSent rows room (Store n a) = room
 roomSent rows room (Send n) = roomAfter (record { bytes = rowBytes rows n }) room
-
-unfoldable pub ruled : Controller → List ℕ → Ruling → Done
-ruled c f r = record { next = record { control = r .next; rows = rowsBy (c .rows) f (r .verdict) }; answer = answerBy (c .rows) (r .verdict) }
 
 -- ---- registers
 

@@ -2,7 +2,7 @@
 use mathlib.Core.Path.{_≡_, refl, sym, ap, _∙_}
 use Prim.Native.Nat.{ℕ, _%_, _≤_, _<_}
 use mathlib.Core.Bool.{Bool, true, false}
-use mathlib.Core.List.{List, []}
+use mathlib.Core.List.{List}
 use native.Mathlib.Omega.{arith}
 use borrow.Author.Tests.{lt-ltb, le-ltb, ltb-true, ltb-false}
 use lib.ListN.{getD, set, length, replicate, length-replicate}
@@ -12,7 +12,7 @@ use Rattle.masks.specs.Pick.{pick}
 use Rattle.masks.specs.PickLaws.{pick-true, pick-false, pick-keeps, by-test}
 use Rattle.masks.specs.Bits.{maskOf, highest}
 use Rattle.contents.specs.declared.Contents.{Contents}
-use Rattle.contents.specs.Bytes.{Head}
+use Rattle.contents.specs.Bytes.{Head, imageOf}
 use Rattle.sending.specs.CodeRoom.{fill-none}
 use Rattle.rules.specs.declared.SyncKind.{SyncKind}
 use Rattle.rules.specs.declared.Fault.{Fault}
@@ -23,21 +23,22 @@ use Rattle.rules.specs.declared.Control.{Control}
 use Rattle.rules.specs.declared.Ruling.{Ruling}
 use Rattle.rules.specs.declared.Verdict.{Verdict}
 use Rattle.rules.specs.declared.Verdict.the-variants.{Say, Store, Send}
-use Rattle.rules.specs.Steps.{Step, reset, sync, syncDue, slot, frame, fault, timeout, frameIn, roomIn}
+use Rattle.rules.specs.Steps.{Step, reset, sync, syncDue, slot, frame, fault, timeout}
 use Rattle.rules.specs.Plan.{Plan, plain}
 use Rattle.rules.specs.Refusals.{refuses11, refuses12, refusal}
 use Rattle.rules.specs.Modes.{wake}
 use Rattle.rules.specs.Bus.{woken, dueKind, lookup, offers, judged, received, slotFor, slotted, synced, dueSync, timedOut, faulted}
 use Rattle.rules.specs.Rules.{onBus, wakes, sleepsOn, act, decide}
 use Rattle.rules.specs.Hidden.{decide-hide}
+use Rattle.rules.specs.StoringLaws.{FramePlan, drops, puts, frame-plan}
 use Rattle.bus_steps.specs.Code.{rulingOf, isReady, syncedOf, dueOf}
-use Rattle.bus_steps.specs.CodeLaws.{Simple, says, stores, sends, synced-ready, due-ready, frame-simple, slot-simple}
+use Rattle.bus_steps.specs.CodeLaws.{SlotPlan, says, sends, synced-ready, due-ready, slot-plan}
 use Rattle.controller.specs.declared.Controller.{Controller}
 use Rattle.controller.specs.declared.Done.{Done}
 use Rattle.controller.specs.Carry.{heads, rowAt, moveAll, Outcome, carry, resetState}
 use Rattle.controller.specs.Session.{stepOf}
 use Rattle.controller.specs.Calls.{doneOf}
-use Rattle.controller.specs.Code.{answered, saying, putting, placed, changed, rulingFor, slotRuling, keptFrom, saidChange, eventChange, rowIndex, roomBy, ruled}
+use Rattle.controller.specs.Code.{answered, saying, putting, placed, changed, rulingFor, slotRuling, keptFrom, saidChange, eventChange, frameChange, rowIndex, roomBy}
 
 -- the rules are given the step itself
 pub step-plain : (c : Controller) (e : Step) → stepOf c e ≡ carry e (c .rows) (decide (c .control) (heads (c .rows)) e)
@@ -94,32 +95,18 @@ row-within (Say a) = omega arith
 row-within (Store n a) = omega arith
 row-within (Send n) = omega arith
 
--- a simple plan is carried out from its ruling
-ruled-plan : (c : Controller) (e : Step) (p : Plan) → Simple p → doneOf (carry e (c .rows) p) ≡ ruled c (frameIn e) (rulingOf p)
-unfolding carry moveAll ruled
-ruled-plan c e p (says d a) = refl
-ruled-plan c e p (stores d n a) = refl
-ruled-plan c e p (sends d n) = refl
+-- what the step does, as its plan is carried out
+pub by-plan : (c : Controller) (e : Step) (p : Plan) → decide (c .control) (heads (c .rows)) e ≡ p → doneOf (stepOf c e) ≡ doneOf (carry e (c .rows) p)
+by-plan c e p d = ap doneOf (step-plain c e ∙ ap (carry e (c .rows)) d)
 
-ruled-room : (c : Controller) (e : Step) (p : Plan) → Simple p → carry e (c .rows) p .room ≡ roomBy (c .rows) (roomIn e) (rulingOf p .verdict)
-unfolding carry
-ruled-room c e p (says d a) = fill-none (roomIn e)
-ruled-room c e p (stores d n a) = fill-none (roomIn e)
-ruled-room c e p (sends d n) = refl
-
--- a step that the rules decide by a simple plan
-pub by-plan : (c : Controller) (e : Step) (p : Plan) → decide (c .control) (heads (c .rows)) e ≡ p → Simple p → doneOf (stepOf c e) ≡ ruled c (frameIn e) (rulingOf p)
-by-plan c e p d s = ap doneOf (step-plain c e ∙ ap (carry e (c .rows)) d) ∙ ruled-plan c e p s
-
-room-by-plan : (c : Controller) (e : Step) (p : Plan) → decide (c .control) (heads (c .rows)) e ≡ p → Simple p → stepOf c e .room ≡ roomBy (c .rows) (roomIn e) (rulingOf p .verdict)
-room-by-plan c e p d s = ap (λ (o : Outcome). o .room) (step-plain c e ∙ ap (carry e (c .rows)) d) ∙ ruled-room c e p s
+-- a plan that changes the control state alone
+pub plain-done : (c : Controller) (e : Step) (d : Control) (a : Answer) → doneOf (carry e (c .rows) (plain d a)) ≡ answered (record { control = d; rows = c .rows }) a
+unfolding carry moveAll
+plain-done c e d a = refl
 
 -- a plan that only answers, from the control state c: no buffer's bytes are looked at, and the configuration and the locks stay
 pub data OnlySays (c : Control) : Plan → Type 0 where
   only : (d : Control) (a : Answer) → keptFrom c d ≡ d → OnlySays c (plain d a)
-
-only-simple : (c : Control) (p : Plan) → OnlySays c p → Simple p
-only-simple c p (only d a k) = says d a
 
 same-kept : (c : Control) → keptFrom c c ≡ c
 unfolding keptFrom
@@ -161,16 +148,22 @@ due-says c hs =
     bus-says c _ _ (only c Ignored (same-kept c))
     (pick-keeps (OnlySays c) (c .mode .master) (λ t. only _ _ (synced-kept (dueKind c) c hs)) (λ t. only c Ignored (same-kept c)))
 
-ruled-says : (c : Controller) (f : List ℕ) (p : Plan) → OnlySays (c .control) p → changed c (saidChange (c .control) (rulingOf p)) ≡ ruled c f (rulingOf p)
-unfolding ruled
-ruled-says c f p (only d a k) =
-    says-only c _ a ∙ ap (λ (h : Control). answered (record { control = h; rows = c .rows }) a) k
+only-changes : (c : Controller) (e : Step) (p : Plan) → OnlySays (c .control) p → changed c (saidChange (c .control) (rulingOf p)) ≡ doneOf (carry e (c .rows) p)
+only-changes c e p (only d a k) =
+    says-only c _ a ∙ ap (λ (h : Control). answered (record { control = h; rows = c .rows }) a) k ∙ sym (plain-done c e d a)
 
 event-changes : (c : Controller) (e : Step) → OnlySays (c .control) (decide (c .control) (heads (c .rows)) e) → changed c (eventChange c e) ≡ doneOf (stepOf c e)
 unfolding rulingFor
-event-changes c e s = ruled-says c (frameIn e) _ s ∙ sym (by-plan c e _ refl (only-simple (c .control) _ s))
+event-changes c e s = only-changes c e _ s ∙ sym (by-plan c e _ refl)
 
--- ---- what the events change, and the rulings carried out
+-- a frame's plan stores the frame's image, whatever stood there
+frame-stores : (c : Controller) → length (c .rows) ≡ 16 → (good : Bool) (f : List ℕ) (p : Plan) → FramePlan p →
+    changed c (frameChange (rulingOf p) f) ≡ doneOf (carry (frame good f) (c .rows) p)
+unfolding carry moveAll frameChange
+frame-stores c sixteen good f p (drops d a q) = says-only c d a
+frame-stores c sixteen good f p (puts d n a q) = puts-row c d a (λ (b : Contents). imageOf f) n (rowAt (c .rows) (n % 16)) sixteen refl
+
+-- ---- what the events change
 
 module _ (c : Controller) where
   pub sync-changes : (k : SyncKind) → changed c (eventChange c (sync k)) ≡ doneOf (stepOf c (sync k))
@@ -193,28 +186,35 @@ module _ (c : Controller) where
   unfolding stepOf decide refusal act pick carry moveAll resetState
   reset-step = refl
 
-  pub frame-ruled : (good : Bool) (f : List ℕ) → ruled c f (rulingFor c (frame good f)) ≡ doneOf (stepOf c (frame good f))
-  unfolding rulingFor decide refusal act received
-  frame-ruled good f =
-      sym (by-plan c (frame good f) _ refl (pick-keeps Simple _ (λ t. frame-simple (c .control) good (getD f 0 0) _) (λ t. says (c .control) _)))
+  -- r being the frame's ruling
+  pub frame-changes : length (c .rows) ≡ 16 → (good : Bool) (f : List ℕ) (r : Ruling) → r ≡ rulingFor c (frame good f) →
+      changed c (frameChange r f) ≡ doneOf (stepOf c (frame good f))
+  unfolding rulingFor
+  frame-changes sixteen good f r e =
+      ap (λ (x : Ruling). changed c (frameChange x f)) e
+      ∙ frame-stores c sixteen good f _ (frame-plan (c .control) (heads (c .rows)) good f) ∙ sym (by-plan c (frame good f) _ refl)
 
-  slot-plain : (i : ℕ) (room : List ℕ) → Simple (decide (c .control) (heads (c .rows)) (slot i room))
+  -- the plan of a slot
+  abbrev pub slotPlan : ℕ → List ℕ → Plan
+  slotPlan i room = decide (c .control) (heads (c .rows)) (slot i room)
+
+  pub slot-plain : (i : ℕ) (room : List ℕ) → SlotPlan (slotPlan i room)
   unfolding decide refusal act slotted
-  slot-plain i room = pick-keeps Simple _ (λ t. slot-simple (c .control) i _) (λ t. says (c .control) _)
+  slot-plain i room = pick-keeps SlotPlan _ (λ t. slot-plan (c .control) i _) (λ t. says (c .control) _)
 
-  slot-sized : (i : ℕ) (room : List ℕ) → slotRuling c i (length room) ≡ rulingFor c (slot i room)
+  pub slot-sized : (i : ℕ) (room : List ℕ) → slotRuling c i (length room) ≡ rulingOf (slotPlan i room)
   unfolding rulingFor decide refusal act refuses12
   slot-sized i room = simp length-replicate
 
-  pub slot-ruled : (i : ℕ) (room : List ℕ) → ruled c [] (slotRuling c i (length room)) ≡ doneOf (stepOf c (slot i room))
-  unfolding rulingFor
-  slot-ruled i room = ap (ruled c []) (slot-sized i room) ∙ sym (by-plan c (slot i room) _ refl (slot-plain i room))
+  slot-fills : (i : ℕ) (room : List ℕ) (p : Plan) → SlotPlan p → carry (slot i room) (c .rows) p .room ≡ roomBy (c .rows) room (rulingOf p .verdict)
+  unfolding carry
+  slot-fills i room p (says d a) = fill-none room
+  slot-fills i room p (sends d n) = refl
 
   pub slot-room : (i : ℕ) (room : List ℕ) → roomBy (c .rows) room (slotRuling c i (length room) .verdict) ≡ stepOf c (slot i room) .room
-  unfolding rulingFor
   slot-room i room =
       ap (λ (r : Ruling). roomBy (c .rows) room (r .verdict)) (slot-sized i room)
-      ∙ sym (room-by-plan c (slot i room) _ refl (slot-plain i room))
+      ∙ sym (ap (λ (o : Outcome). o .room) (step-plain c (slot i room)) ∙ slot-fills i room (slotPlan i room) (slot-plain i room))
 
   -- the rulings as the code has them: m the full transmit buffers with an identifier, n the buffer that was looked up
   pub sync-ruling : (k : SyncKind) (m : ℕ) → m ≡ maskOf (isReady (c .control) (heads (c .rows))) →

@@ -160,9 +160,7 @@ impl Controller {
         ensures { λ r. ⌜ r ≡ doneOf (stepOf self (frame good (now (f .entry)))) ⌝ }
     {
         let r = events::frame_ruling(self, good, f);
-        let i = events::row_of(r);
-        let row = self.rows[i];
-        carried(self, events::ruling_change(r, row, f))
+        carried(self, events::frame_change(r, f))
     }
 
     // A fault of the bus.

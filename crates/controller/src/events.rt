@@ -1,15 +1,16 @@
 // What the bus events change.
 ghost use mathlib.Core.Path.{_≡_};
 ghost use Prim.Native.Nat.{_%_};
-ghost use mathlib.Core.List.{List, []};
+ghost use mathlib.Core.List.{List};
 ghost use Rattle.contents.specs.declared.Contents.{Contents};
+ghost use Rattle.contents.specs.Bytes.{imageOf};
 ghost use Rattle.rules.specs.Bus.{lookup, offers};
 ghost use Rattle.masks.specs.Bits.{highest, maskOf};
 ghost use Rattle.bus_steps.specs.Code.{isReady};
 ghost use Rattle.rules.specs.Steps.Step.{sync, syncDue, frame, fault, timeout};
 ghost use Rattle.controller.specs.declared.Controller.{Controller};
 ghost use Rattle.controller.specs.Carry.{heads, rowAt};
-ghost use Rattle.controller.specs.Code.{putting, rulingFor, slotRuling, keptFrom, saidChange, eventChange, rowIndex, bytesAt, frameOver, rulingChange, roomSent};
+ghost use Rattle.controller.specs.Code.{putting, rulingFor, slotRuling, keptFrom, saidChange, eventChange, frameChange, rowIndex, bytesAt, slotAnswer, slotChange, roomSent};
 use crate::Change;
 use crate::Controller;
 use crate::changes::with_answer;
@@ -40,15 +41,14 @@ fn bytes_at(n: u8, row: Contents) -> [u8; 14]
     row.bytes
 }
 
-// The frame f stored in buffer n, whose row is given, with the control state c after it.
-fn stored(c: Control, n: u8, row: Contents, f: &[u8], a: Answer) -> Change
-    ensures { λ x. ⌜ x ≡ putting c n (frameOver (now (f .entry)) row .bytes) a ⌝ }
+// The frame f stored in buffer n, with the control state c after it.
+fn stored(c: Control, n: u8, f: &[u8], a: Answer) -> Change
+    ensures { λ x. ⌜ x ≡ putting c n (imageOf (now (f .entry)) .bytes) a ⌝ }
 {
     if NONE <= n {
         return with_answer(c, a);
     }
-    let b = row.bytes;
-    with_bytes(c, n, receiving::store_frame(b, f), a)
+    with_bytes(c, n, receiving::store_frame(f), a)
 }
 
 // The control state d with the configuration and the locks of c. No event of the bus changes these: taken from c, from before the
@@ -152,8 +152,8 @@ pub fn timeout(c: Controller) -> Change
     said(d, bus_steps::on_timeout(d))
 }
 
-// Frames and slots touch one buffer's bytes: first the ruling, which names the buffer, then the change, from that buffer's row.
-// So a step in place reads no more than this row.
+// Frames and slots touch one buffer's bytes: first the ruling, which names the buffer, then the change. A frame's needs no row, for
+// what is stored is of the frame alone; a slot's needs the row that is sent. So a step in place reads no other.
 
 // The ruling on a frame: its verdict and its bytes.
 pub fn frame_ruling(c: Controller, good: bool, f: &[u8]) -> Ruling
@@ -170,6 +170,19 @@ pub fn frame_ruling(c: Controller, good: bool, f: &[u8]) -> Ruling
     bus_steps::on_frame(d, good, i, lookup(c, i))
 }
 
+// What a frame's ruling changes.
+pub fn frame_change(r: Ruling, f: &[u8]) -> Change
+    ensures { λ x. ⌜ x ≡ frameChange r (now (f .entry)) ⌝ }
+{
+    let control = r.next;
+    let verdict = r.verdict;
+    match verdict {
+        Verdict::Say(a) => with_answer(control, a),
+        Verdict::Store(n, a) => stored(control, n, f, a),
+        Verdict::Send(_) => with_answer(control, Answer::Ok),
+    }
+}
+
 // The ruling on slot i for a room of a size.
 pub fn slot_ruling(c: Controller, i: u8, size: usize) -> Ruling
     ensures { λ r. ⌜ r ≡ slotRuling c i size ⌝ }
@@ -184,40 +197,36 @@ pub fn slot_ruling(c: Controller, i: u8, size: usize) -> Ruling
     bus_steps::on_slot(d, i, offering(c, i))
 }
 
-// Index of the row of the buffer that a ruling names; any row where it names none.
+// Index of the row of the buffer that a slot's ruling sends; any row where it sends none.
 pub fn row_of(r: Ruling) -> usize
     ensures { λ i. ⌜ i ≡ rowIndex (r .verdict) ⌝ }
 {
     let verdict = r.verdict;
     match verdict {
         Verdict::Say(_) => 0,
-        Verdict::Store(n, _) => row_index(n),
+        Verdict::Store(_, _) => 0,
         Verdict::Send(n) => row_index(n),
     }
 }
 
-// A ruling as a change, from its buffer's row and the step's frame f.
-pub fn ruling_change(r: Ruling, row: Contents, f: &[u8]) -> Change
-    ensures { λ x. ⌜ x ≡ rulingChange r row (now (f .entry)) ⌝ }
+// The answer of a verdict on a slot.
+fn slot_answer(verdict: Verdict, row: Contents) -> Answer
+    ensures { λ a. ⌜ a ≡ slotAnswer row verdict ⌝ }
 {
-    let control = r.next;
-    let verdict = r.verdict;
     match verdict {
-        Verdict::Say(a) => with_answer(control, a),
-        Verdict::Store(n, a) => stored(control, n, row, f, a),
-        Verdict::Send(n) => with_answer(
-            control,
-            Answer::Sent(sending::frame_size(bytes_at(n, row))),
-        ),
+        Verdict::Say(a) => a,
+        Verdict::Store(_, a) => a,
+        Verdict::Send(n) => Answer::Sent(sending::frame_size(bytes_at(n, row))),
     }
 }
 
 // What a slot's ruling changes, from its buffer's row; a sent frame fills the room's first bytes.
 pub fn slot_change(r: Ruling, row: Contents, room: &mut [u8]) -> Change
-    ensures { λ x. ⌜ x ≡ rulingChange r row [] ⌝ }
+    ensures { λ x. ⌜ x ≡ slotChange r row ⌝ }
     ensures { λ _. ⌜ ((c : Controller) → row ≡ rowAt (c .rows) (rowIndex (r .verdict)) → now (room .exit) ≡ roomSent (c .rows) (now (room .entry)) (r .verdict)) ⌝ }
 {
+    let control = r.next;
     let verdict = r.verdict;
     fill(verdict, row, room);
-    ruling_change(r, row, b"")
+    with_answer(control, slot_answer(verdict, row))
 }

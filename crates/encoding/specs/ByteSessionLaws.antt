@@ -1,5 +1,5 @@
 -- Steps that bring bytes leave bytes in the record.
-use Prim.Native.Nat.{ℕ, zero, suc, _+_, _<_}
+use Prim.Native.Nat.{ℕ, zero, suc, _-_, _<_}
 use mathlib.Core.Path.{sym, subst}
 use mathlib.Core.List.{List, [], _∷_, _++_, map}
 use native.Mathlib.Omega.{arith}
@@ -49,21 +49,20 @@ module _ (b : Contents) (p : Bytes (b .bytes)) where
   unfolding withData
   data-bytes j v h = set-bytes (b .bytes) (suc (suc j)) v p h
 
-  store-bytes : (i l : ℕ) (d : List ℕ) → i < 256 → Bytes d → Bytes (storeFrame b i l d .bytes)
-  unfolding storeFrame
-  store-bytes i l d h q =
-      let data-part : List ℕ = take (taken l d) d in
-      let rest : List ℕ = drop (2 + taken l d) (b .bytes) in
-      cons-bytes i (cut l ∷ (data-part ++ rest)) h
-      (cons-bytes (cut l) (data-part ++ rest) (omega arith) (append-bytes data-part rest (take-bytes (taken l d) d q) (rest-bytes (2 + taken l d))))
+store-bytes : (i l : ℕ) (d : List ℕ) → i < 256 → Bytes d → Bytes (storeFrame i l d .bytes)
+unfolding storeFrame
+store-bytes i l d h q =
+    let data-part : List ℕ = take (taken l d) d in
+    let rest : List ℕ = replicate (12 - taken l d) 0 in
+    cons-bytes i (cut l ∷ (data-part ++ rest)) h
+    (cons-bytes (cut l) (data-part ++ rest) (omega arith) (append-bytes data-part rest (take-bytes (taken l d) d q) (zero-bytes (12 - taken l d))))
 
 move-bytes : (e : Step) (m : Move) (rows : List Contents) → BringsBytes e → putBy m < 256 → RowBytes rows → RowBytes (move e m rows)
 move-bytes e wipe rows b h p = blank-rows
 move-bytes e (setIdent n v) rows b h p = row-set rows n _ p (ident-bytes (rowAt rows n) (p n) v h)
 move-bytes e (setLength n v) rows b h p = row-set rows n _ p (length-bytes (rowAt rows n) (p n) v h)
 move-bytes e (setData n j) rows b h p = row-set rows n _ p (data-bytes (rowAt rows n) (p n) j (valueIn e) (b .value))
-move-bytes e (store n) rows b h p =
-    row-set rows n _ p (store-bytes (rowAt rows n) (p n) _ (getD (frameIn e) 1 0) _ (b .frame 0) (drop-bytes 2 (frameIn e) (b .frame)))
+move-bytes e (store n) rows b h p = row-set rows n _ p (store-bytes _ (getD (frameIn e) 1 0) _ (b .frame 0) (drop-bytes 2 (frameIn e) (b .frame)))
 
 moves-bytes : (e : Step) (ms : List Move) (rows : List Contents) → BringsBytes e → Bytes (map putBy ms) → RowBytes rows → RowBytes (moveAll e ms rows)
 unfolding moveAll

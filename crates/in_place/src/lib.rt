@@ -27,14 +27,12 @@ fn carry(c: &mut Controller, x: Change) -> Answer
     x.answer
 }
 
-// The step of a frame: none of its bytes is copied but to a buffer.
+// The step of a frame: none of its bytes is copied but to a buffer, of which no byte is looked at.
 fn frame(c: &mut Controller, good: bool, f: &[u8]) -> Answer
     ensures { λ r. ⌜ (now (c .exit) ≡ doneOf (stepOf (now (c .entry)) (frameStep good (now (f .entry)))) .next) × (r ≡ doneOf (stepOf (now (c .entry)) (frameStep good (now (f .entry)))) .answer) ⌝ }
 {
     let r = events::frame_ruling(*c, good, f);
-    let i = events::row_of(r);
-    let row = c.rows[i];
-    let x = events::ruling_change(r, row, f);
+    let x = events::frame_change(r, f);
     carry(c, x)
 }
 

@@ -8,7 +8,7 @@ use Rattle.masks.specs.Pick.{pick}
 use Rattle.masks.specs.Bits.{bitOf, lowest, highest, countOf, rising}
 use Rattle.filter.specs.declared.Filter.{Filter}
 use Rattle.filter.specs.Match.{agrees, matches}
-use Rattle.contents.specs.Bytes.{blank, headOf, storeFrame}
+use Rattle.contents.specs.Bytes.{headOf, storeFrame}
 use Rattle.rules.specs.declared.Buffers.{Buffers}
 use Rattle.rules.specs.declared.Control.{Control}
 use Rattle.rules.specs.Record.{withConfig, withBuffers, withFsiz}
@@ -24,7 +24,7 @@ pair p m = record { pattern = p; mask = m }
 
 -- a length byte as it is stored
 abbrev storedLength : ℕ → ℕ
-storedLength l = headOf (storeFrame blank 0x21 l (replicate 12 7)) .len
+storedLength l = headOf (storeFrame 0x21 l (replicate 12 7)) .len
 
 -- FSIZ and the CFG bits of a layout
 abbrev layout : ℕ → ℕ → Control

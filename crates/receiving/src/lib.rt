@@ -1,18 +1,18 @@
 // A frame that comes as a slice, and a buffer's contents after it is stored.
-// The functions take the fourteen bytes by value and return them so; each answers for every argument.
+// The fourteen bytes are returned by value; each function answers for every argument.
 ghost use mathlib.Core.Path.{_≡_};
-ghost use lib.ListN.{getD, drop};
+ghost use lib.ListN.{getD};
 ghost use Rattle.contents.specs.Code.{wellSized};
-ghost use Rattle.contents.specs.Bytes.{storeFrame};
+ghost use Rattle.contents.specs.Bytes.{storeFrame, imageOf};
 
 // The contents after a frame is stored whose parts are given: its identifier, its length cut, and that many of its data bytes,
-// or all of them where it has fewer; later bytes stay.
-pub fn store(old: [u8; 14], ident: u8, len: u8, bytes: &[u8]) -> [u8; 14]
-    ensures { λ r. ⌜ r ≡ storeFrame (record { bytes = old }) ident len (now (bytes .entry)) .bytes ⌝ }
+// or all of them where it has fewer; zeros behind.
+pub fn store(ident: u8, len: u8, bytes: &[u8]) -> [u8; 14]
+    ensures { λ r. ⌜ r ≡ storeFrame ident len (now (bytes .entry)) .bytes ⌝ }
 {
     let size = contents::cut(len);
     let n = size as usize;
-    let mut b = old;
+    let mut b = [0u8; 14];
     b[0] = ident;
     b[1] = size;
     let mut k = 0;
@@ -35,13 +35,13 @@ pub fn byte_or_zero(f: &[u8], k: usize) -> u8
 
 // The contents after a frame is stored that is one slice: its data part goes on to `store` as it stands. An identifier or a
 // length byte that it lacks is 0.
-pub fn store_frame(b: [u8; 14], f: &[u8]) -> [u8; 14]
-    ensures { λ r. ⌜ r ≡ storeFrame (record { bytes = b }) (getD (now (f .entry)) 0 0) (getD (now (f .entry)) 1 0) (drop 2 (now (f .entry))) .bytes ⌝ }
+pub fn store_frame(f: &[u8]) -> [u8; 14]
+    ensures { λ r. ⌜ r ≡ imageOf (now (f .entry)) .bytes ⌝ }
 {
     if f.len() < 2 {
-        return store(b, byte_or_zero(f, 0), byte_or_zero(f, 1), b"");
+        return store(byte_or_zero(f, 0), byte_or_zero(f, 1), b"");
     }
-    store(b, f[0], f[1], &f[2..])
+    store(f[0], f[1], &f[2..])
 }
 
 // The slice has 2 + min(12, the length byte's low four bits) bytes.

@@ -1,7 +1,7 @@
 -- Document 01, 'The replay text': the word and the detail of each answer. `partsOf` is the one table that goes by the cases of
 -- an answer; all else is said of its word's number and of what comes with it.
 use Prim.Native.Nat.{ℕ}
-use mathlib.Core.Bool.{Bool, true, false, _||_}
+use mathlib.Core.Bool.{Bool, true, false, _&&_, _||_}
 use mathlib.Core.List.{List}
 use lib.Dec.{eqb}
 use Rattle.rules.specs.declared.SyncKind.{SyncKind}
@@ -62,6 +62,12 @@ partsOf Ignored = parts 12 dash
 partsOf Woke = parts 13 dash
 partsOf NotSent = parts 14 dash
 
+abbrev pub STORED : ℕ
+STORED = 2
+
+abbrev pub QUEUED : ℕ
+QUEUED = 3
+
 abbrev pub SENT : ℕ
 SENT = 6
 
@@ -92,6 +98,14 @@ framed false g f = given g
 -- the detail of an answer, with the frame that was sent
 abbrev pub detailOf : Answer → List ℕ → Detail
 detailOf a f = framed (isSent a) (givenOf a) f
+
+-- the answers "stored" and "queued": the frame is in a buffer
+abbrev pub isPut : Answer → Bool
+isPut a = eqb (wordOf a) STORED || eqb (wordOf a) QUEUED
+
+-- and that is buffer n
+abbrev pub isPutIn : ℕ → Answer → Bool
+isPutIn n a = isPut a && eqb (numberIn (givenOf a)) n
 
 -- the answers "refused" and "ignored"
 abbrev pub changesNothing : Answer → Bool

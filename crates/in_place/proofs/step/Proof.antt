@@ -59,10 +59,10 @@ use mir.Syntax.{tyPtr, op2, unsigned, mul, offset, int as intᴹ}
 use denote.Index.{place-is}
 use Rattle.contents.specs.Bytes.{noContents}
 use Rattle.controller.specs.Carry.{rowAt}
-use Rattle.controller.specs.Code.{rowIndex, windowRow, slotRuling, eventChange, rulingChange, ruled, roomSent, readAnswer}
-use Rattle.controller.specs.CodeLaws.{sync-changes, sync-due-changes, fault-changes, timeout-changes, slot-ruled}
+use Rattle.controller.specs.Code.{rowIndex, windowRow, slotRuling, eventChange, slotChange, roomSent, readAnswer}
+use Rattle.controller.specs.CodeLaws.{sync-changes, sync-due-changes, fault-changes, timeout-changes}
 use Rattle.controller.specs.AccessLaws.{read-answers}
-use Rattle.controller.proofs.EventLaws.{ruling-changes, slot-sends}
+use Rattle.controller.proofs.EventLaws.{slot-changes, slot-sends}
 use Rattle.in_place.proofs.Element.{elem-at}
 use Rattle.in_place.proofs.Rows.{at-rows, values, value-at, row-below, window-below, byte-fits, sixteen-rows, sixteen-values, in-rows, row-is, control-is}
 use Rattle.rules.specs.Registers.{registerAt}
@@ -678,21 +678,21 @@ module _ {M : Type 1} (𝓤 : URA M) (H : Heap 𝓤) (A : Atoms 𝓤) (W : Given
             keep ! (2 ∷ 0 ∷ 4 ∷ 5 ∷ 6 ∷ 7 ∷ 8 ∷ 9 ∷ 10 ∷ 11 ∷ 12 ∷ 13 ∷ 14 ∷ 15 ∷ 16 ∷ 17 ∷ 18 ∷ 19 ∷ 20 ∷ 21 ∷ 22 ∷ 23 ∷ 24 ∷ 25 ∷ 26 ∷ 27 ∷ 28 ∷ 29 ∷ 30 ∷ 31 ∷ 32 ∷ 33 ∷ 34 ∷ 35 ∷ 36 ∷ 37 ∷ 38 ∷ 39 ∷ 40 ∷ 41 ∷ 42 ∷ 43 ∷ 44 ∷ 45 ∷ 46 ∷ 47 ∷ 48 ∷ 49 ∷ 50 ∷ 51 ∷ 52 ∷ 53 ∷ 54 ∷ 55 ∷ 56 ∷ 57 ∷ 58 ∷ 59 ∷ 60 ∷ 61 ∷ 62 ∷ 63 ∷ 64 ∷ 65 ∷ 66 ∷ 67 ∷ 68 ∷ 69 ∷ 70 ∷ 71 ∷ 72 ∷ 73 ∷ 74 ∷ 75 ∷ 76 ∷ 77 ∷ 78 ∷ 79 ∷ 80 ∷ 81 ∷ 82 ∷ 83 ∷ 84 ∷ 85 ∷ 86 ∷ 87 ∷ 88 ∷ 89 ∷ 90 ∷ 91 ∷ 92 ∷ 93 ∷ 94 ∷ 95 ∷ 96 ∷ 97 ∷ 98 ∷ 99 ∷ 100 ∷ 101 ∷ []) $ answered (ws .0) m zs (d .0 ∙ ap (λ (u : Done). u .next) e, d .1 ∙ ap (λ (u : Done). u .answer) e, z) (answer-is m _ is) l)))))
 
         -- what is made of the row
-        making-slot : {y2 y14 y34 y16 y35 y36 y37 y38 : Val} (r : Ruling) → Is Ruling-row.the-row r (LL.val Ruling-row.the-type Ruling-row′.the-laws r ∷ []) → ruled h [] r ≡ doneOf (stepOf h (stepFor call f room)) → roomSent (h .rows) room (r .verdict) ≡ roomFor h call room → (i : ℕ) → i ≡ rowIndex (r .verdict) → length (h .rows) ≡ 16 → Is Row.the-row (rowAt (h .rows) i) (LL.val Row.the-type Row′.the-laws (rowAt (h .rows) i) ∷ []) → Sq W (‵ (fobs γ (T.the-row .coded .code h)) ∷ ‵ (fbor κ (Body (mem T.the-row) b o γ)) ∷ ‵ (flft κ q) ∷ ‵ Bytes ∷ ‵ (flft κ-f q-f) ∷ ‵ Room′ ∷ ‵ (flft κ-room q-room) ∷ ‵ (froom Answer-row′.mir l0 0) ∷ ‵ (fat fullShare (tyRef (named 0) mut rec-ty) l1 0 (vptr b o)) ∷ ‵ (fat fullShare Call-row′.mir l2 0 y2) ∷ ‵ (fat fullShare (sliceTy (tyRef (named 1) imm (tyInt w8))) l3 0 s-f) ∷ ‵ (fat fullShare (sliceTy (tyRef (named 2) mut (tyInt w8))) l4 0 s-room) ∷ ‵ (froom (tyInt w8) l5 0) ∷ ‵ (froom Control-row′.mir l6 0) ∷ ‵ (froom (tyInt w64) l7 0) ∷ ‵ (froom Row′.mir l8 0) ∷ ‵ (froom (tyInt w8) l9 0) ∷ ‵ (froom (tyInt w8) l10 0) ∷ ‵ (froom Sync-row′.mir l11 0) ∷ ‵ (froom out-ty l12 0) ∷ ‵ (froom out-ty l13 0) ∷ ‵ (fat fullShare (tyInt w8) l14 0 y14) ∷ ‵ (fat fullShare Ruling-row′.mir l15 0 (LL.val Ruling-row.the-type Ruling-row′.the-laws r)) ∷ ‵ (fat fullShare (tyInt w64) l16 0 y16) ∷ ‵ (fat fullShare Row′.mir l17 0 (LL.val Row.the-type Row′.the-laws (rowAt (h .rows) i))) ∷ ‵ (froom out-ty l18 0) ∷ ‵ (froom tyBool l19 0) ∷ ‵ (froom Fault-row′.mir l20 0) ∷ ‵ (froom out-ty l21 0) ∷ ‵ (froom out-ty l22 0) ∷ ‵ (froom Answer-row′.mir l23 0) ∷ ‵ (froom T′.mir l24 0) ∷ ‵ (froom (tyInt w64) l25 0) ∷ ‵ (froom tyPtr l26 0) ∷ ‵ (froom tyPtr l27 0) ∷ ‵ (froom Row′.mir l28 0) ∷ ‵ (froom (tyRef erased mut rec-ty) l29 0) ∷ ‵ (froom T′.mir l30 0) ∷ ‵ (froom (tyRef erased mut rec-ty) l31 0) ∷ ‵ (froom T′.mir l32 0) ∷ ‵ (froom (tyRef erased mut rec-ty) l33 0) ∷ ‵ (fat fullShare T′.mir l34 0 y34) ∷ ‵ (fat fullShare (tyInt w64) l35 0 y35) ∷ ‵ (fat fullShare tyPtr l36 0 y36) ∷ ‵ (fat fullShare tyPtr l37 0 y37) ∷ ‵ (fat fullShare Row′.mir l38 0 y38) ∷ ‵ (froom (tyRef erased mut (tyInt w8)) l39 0) ∷ ‵ (froom (sliceTy (tyRef erased mut (tyInt w8))) l40 0) ∷ ‵ (froom (tyRef erased mut rec-ty) l41 0) ∷ ‵ (froom (tyRef erased mut rec-ty) l42 0) ∷ ‵ (froom T′.mir l43 0) ∷ ‵ (froom (tyRef erased mut rec-ty) l44 0) ∷ ‵ (froom T′.mir l45 0) ∷ ‵ (froom (tyRef erased mut rec-ty) l46 0) ∷ Dies) (runs C Λ En code-making-slot (anyQ (Next call)))
+        making-slot : {y2 y14 y34 y16 y35 y36 y37 y38 : Val} (r : Ruling) → Is Ruling-row.the-row r (LL.val Ruling-row.the-type Ruling-row′.the-laws r ∷ []) → ((k : Contents) → k ≡ rowAt (h .rows) (rowIndex (r .verdict)) → changed h (slotChange r k) ≡ doneOf (stepOf h (stepFor call f room))) → roomSent (h .rows) room (r .verdict) ≡ roomFor h call room → (i : ℕ) → i ≡ rowIndex (r .verdict) → length (h .rows) ≡ 16 → Is Row.the-row (rowAt (h .rows) i) (LL.val Row.the-type Row′.the-laws (rowAt (h .rows) i) ∷ []) → Sq W (‵ (fobs γ (T.the-row .coded .code h)) ∷ ‵ (fbor κ (Body (mem T.the-row) b o γ)) ∷ ‵ (flft κ q) ∷ ‵ Bytes ∷ ‵ (flft κ-f q-f) ∷ ‵ Room′ ∷ ‵ (flft κ-room q-room) ∷ ‵ (froom Answer-row′.mir l0 0) ∷ ‵ (fat fullShare (tyRef (named 0) mut rec-ty) l1 0 (vptr b o)) ∷ ‵ (fat fullShare Call-row′.mir l2 0 y2) ∷ ‵ (fat fullShare (sliceTy (tyRef (named 1) imm (tyInt w8))) l3 0 s-f) ∷ ‵ (fat fullShare (sliceTy (tyRef (named 2) mut (tyInt w8))) l4 0 s-room) ∷ ‵ (froom (tyInt w8) l5 0) ∷ ‵ (froom Control-row′.mir l6 0) ∷ ‵ (froom (tyInt w64) l7 0) ∷ ‵ (froom Row′.mir l8 0) ∷ ‵ (froom (tyInt w8) l9 0) ∷ ‵ (froom (tyInt w8) l10 0) ∷ ‵ (froom Sync-row′.mir l11 0) ∷ ‵ (froom out-ty l12 0) ∷ ‵ (froom out-ty l13 0) ∷ ‵ (fat fullShare (tyInt w8) l14 0 y14) ∷ ‵ (fat fullShare Ruling-row′.mir l15 0 (LL.val Ruling-row.the-type Ruling-row′.the-laws r)) ∷ ‵ (fat fullShare (tyInt w64) l16 0 y16) ∷ ‵ (fat fullShare Row′.mir l17 0 (LL.val Row.the-type Row′.the-laws (rowAt (h .rows) i))) ∷ ‵ (froom out-ty l18 0) ∷ ‵ (froom tyBool l19 0) ∷ ‵ (froom Fault-row′.mir l20 0) ∷ ‵ (froom out-ty l21 0) ∷ ‵ (froom out-ty l22 0) ∷ ‵ (froom Answer-row′.mir l23 0) ∷ ‵ (froom T′.mir l24 0) ∷ ‵ (froom (tyInt w64) l25 0) ∷ ‵ (froom tyPtr l26 0) ∷ ‵ (froom tyPtr l27 0) ∷ ‵ (froom Row′.mir l28 0) ∷ ‵ (froom (tyRef erased mut rec-ty) l29 0) ∷ ‵ (froom T′.mir l30 0) ∷ ‵ (froom (tyRef erased mut rec-ty) l31 0) ∷ ‵ (froom T′.mir l32 0) ∷ ‵ (froom (tyRef erased mut rec-ty) l33 0) ∷ ‵ (fat fullShare T′.mir l34 0 y34) ∷ ‵ (fat fullShare (tyInt w64) l35 0 y35) ∷ ‵ (fat fullShare tyPtr l36 0 y36) ∷ ‵ (fat fullShare tyPtr l37 0 y37) ∷ ‵ (fat fullShare Row′.mir l38 0 y38) ∷ ‵ (froom (tyRef erased mut (tyInt w8)) l39 0) ∷ ‵ (froom (sliceTy (tyRef erased mut (tyInt w8))) l40 0) ∷ ‵ (froom (tyRef erased mut rec-ty) l41 0) ∷ ‵ (froom (tyRef erased mut rec-ty) l42 0) ∷ ‵ (froom T′.mir l43 0) ∷ ‵ (froom (tyRef erased mut rec-ty) l44 0) ∷ ‵ (froom T′.mir l45 0) ∷ ‵ (froom (tyRef erased mut rec-ty) l46 0) ∷ Dies) (runs C Λ En code-making-slot (anyQ (Next call)))
         making-slot r r-is e z i p sixteen k-is =
             assigns ! (addr ! (from ! (fld ! refl (hop ! (look-in ! 11 (sub ! 0 refl (whole !))) (stop !))))) (from ! (stop !)) (init ! 46 refl (tt, tt)) $
             assigns ! (agg ! (and-then ! (load ! (from ! (stop !)) (look ! 46 refl)) (and-then ! (load ! (from ! (fld ! refl (stop !))) (look-in ! 11 (sub ! 1 refl (whole !)))) (no-more !)))) (from ! (stop !)) (init ! 47 refl (tt, (tt, (record { fits = room-room .0 }, tt)))) $
             move ! (6 ∷ 5 ∷ []) $ group ! 2 $ use1 W (raw ((Filled 𝓤 H A at-mem run) .pre (to-filled r (rowAt (h .rows) i)))) (asked-filled r (rowAt (h .rows) i) r-is k-is) $
             calls-at ! fm (Filled 𝓤 H A at-mem run) known-filled (to-filled r (rowAt (h .rows) i)) (and-then ! (load ! (from ! (stop !)) (look ! 21 refl)) (and-then ! (load ! (from ! (stop !)) (look ! 23 refl)) (and-then ! (load ! (from ! (stop !)) (look ! 46 refl)) (no-more !)))) (λ v.
             use1 W (later (some (λ (x : Change). ((‵ (flft κ-room q-room) ⊛ ‵ ftrue) ⊛ ‵ (S.the-row .own x (v ∷ []))) ⊛ raw (ensured 𝓤 H A filled.ended (filled.clauses 𝓤 H A at-mem run) (κ-room, tt) (args-filled r (rowAt (h .rows) i)) tt x)))) (id⊢ 𝓤 _) $ await ! tt $ pick ! (λ x.
-            split ! $ move ! (1 ∷ []) $ use1 W (some (λ (ws : Lasts filled.ended (κ-room, tt) (args-filled r (rowAt (h .rows) i))). ‵ (lasts filled.ended (κ-room, tt) (args-filled r (rowAt (h .rows) i)) ws) ⊛ raw (fact 𝓤 (x ≡ rulingChange r (rowAt (h .rows) i) [])) ⊛ raw (fact 𝓤 ((c : Controller) → rowAt (h .rows) i ≡ rowAt (c .rows) (rowIndex (r .verdict)) → (ws .1 .1 .0) ≡ roomSent (c .rows) room (r .verdict))))) (id⊢ 𝓤 _) $ pick ! (λ ws.
-            split ! $ move ! (1 ∷ []) $ split ! $ heard ! (x ≡ rulingChange r (rowAt (h .rows) i) []) (λ d. heard ! ((c : Controller) → rowAt (h .rows) i ≡ rowAt (c .rows) (rowIndex (r .verdict)) → (ws .1 .1 .0) ≡ roomSent (c .rows) room (r .verdict)) (λ z₁. fsplit ! $ drop ! $ fsplit ! $ drop ! $ fsplit ! $ fsplit ! $ move ! (1 ∷ []) $ feqL ! (λ l.
+            split ! $ move ! (1 ∷ []) $ use1 W (some (λ (ws : Lasts filled.ended (κ-room, tt) (args-filled r (rowAt (h .rows) i))). ‵ (lasts filled.ended (κ-room, tt) (args-filled r (rowAt (h .rows) i)) ws) ⊛ raw (fact 𝓤 (x ≡ slotChange r (rowAt (h .rows) i))) ⊛ raw (fact 𝓤 ((c : Controller) → rowAt (h .rows) i ≡ rowAt (c .rows) (rowIndex (r .verdict)) → (ws .1 .1 .0) ≡ roomSent (c .rows) room (r .verdict))))) (id⊢ 𝓤 _) $ pick ! (λ ws.
+            split ! $ move ! (1 ∷ []) $ split ! $ heard ! (x ≡ slotChange r (rowAt (h .rows) i)) (λ d. heard ! ((c : Controller) → rowAt (h .rows) i ≡ rowAt (c .rows) (rowIndex (r .verdict)) → (ws .1 .1 .0) ≡ roomSent (c .rows) room (r .verdict)) (λ z₁. fsplit ! $ drop ! $ fsplit ! $ drop ! $ fsplit ! $ fsplit ! $ move ! (1 ∷ []) $ feqL ! (λ l.
             move ! (2 ∷ []) $ split ! $ move ! (1 ∷ []) $ peeks ! S.the-row (Is S.the-row) (shows 𝓤 H A S.the-row) x (v ∷ []) (λ is. drop ! $ split ! $
             land ! (from ! (stop !)) (init ! 27 refl (LL.lawful S.the-type S′.the-laws 𝓤 H A W .typed x _ is .0)) $ rewrite ! 27 (λ (u : Val). ‵ (fat fullShare out-ty l18 0 u)) (ap only (LL.tells S.the-type S′.the-laws x _ is)) refl $
-            keep ! (4 ∷ 5 ∷ 6 ∷ 7 ∷ 8 ∷ 0 ∷ 2 ∷ 9 ∷ 10 ∷ 11 ∷ 12 ∷ 13 ∷ 14 ∷ 15 ∷ 16 ∷ 17 ∷ 18 ∷ 19 ∷ 20 ∷ 21 ∷ 22 ∷ 23 ∷ 24 ∷ 25 ∷ 26 ∷ 27 ∷ 28 ∷ 29 ∷ 30 ∷ 31 ∷ 32 ∷ 33 ∷ 34 ∷ 35 ∷ 36 ∷ 37 ∷ 38 ∷ 39 ∷ 40 ∷ 41 ∷ 42 ∷ 43 ∷ 44 ∷ 45 ∷ 46 ∷ 47 ∷ 48 ∷ 49 ∷ 50 ∷ 51 ∷ 52 ∷ 53 ∷ 54 ∷ 55 ∷ 56 ∷ 57 ∷ 58 ∷ 59 ∷ 60 ∷ 61 ∷ 62 ∷ 63 ∷ 64 ∷ 65 ∷ 66 ∷ 67 ∷ 68 ∷ 69 ∷ 70 ∷ 71 ∷ 72 ∷ 73 ∷ 74 ∷ 75 ∷ 76 ∷ 77 ∷ 78 ∷ 79 ∷ 80 ∷ 81 ∷ 82 ∷ 83 ∷ 84 ∷ 85 ∷ 86 ∷ 87 ∷ 88 ∷ 89 ∷ 90 ∷ 91 ∷ 92 ∷ 93 ∷ 94 ∷ 95 ∷ 96 ∷ 97 ∷ 98 ∷ 99 ∷ 100 ∷ 101 ∷ 102 ∷ []) $ carried-slot x (change-is x _ is) (ap (changed h) d ∙ ruling-changes h sixteen [] _ r (ap (rowAt (h .rows)) p) ∙ e) (ws .1 .1 .0) (z₁ h (ap (rowAt (h .rows)) p) ∙ z) l)))))))
+            keep ! (4 ∷ 5 ∷ 6 ∷ 7 ∷ 8 ∷ 0 ∷ 2 ∷ 9 ∷ 10 ∷ 11 ∷ 12 ∷ 13 ∷ 14 ∷ 15 ∷ 16 ∷ 17 ∷ 18 ∷ 19 ∷ 20 ∷ 21 ∷ 22 ∷ 23 ∷ 24 ∷ 25 ∷ 26 ∷ 27 ∷ 28 ∷ 29 ∷ 30 ∷ 31 ∷ 32 ∷ 33 ∷ 34 ∷ 35 ∷ 36 ∷ 37 ∷ 38 ∷ 39 ∷ 40 ∷ 41 ∷ 42 ∷ 43 ∷ 44 ∷ 45 ∷ 46 ∷ 47 ∷ 48 ∷ 49 ∷ 50 ∷ 51 ∷ 52 ∷ 53 ∷ 54 ∷ 55 ∷ 56 ∷ 57 ∷ 58 ∷ 59 ∷ 60 ∷ 61 ∷ 62 ∷ 63 ∷ 64 ∷ 65 ∷ 66 ∷ 67 ∷ 68 ∷ 69 ∷ 70 ∷ 71 ∷ 72 ∷ 73 ∷ 74 ∷ 75 ∷ 76 ∷ 77 ∷ 78 ∷ 79 ∷ 80 ∷ 81 ∷ 82 ∷ 83 ∷ 84 ∷ 85 ∷ 86 ∷ 87 ∷ 88 ∷ 89 ∷ 90 ∷ 91 ∷ 92 ∷ 93 ∷ 94 ∷ 95 ∷ 96 ∷ 97 ∷ 98 ∷ 99 ∷ 100 ∷ 101 ∷ 102 ∷ []) $ carried-slot x (change-is x _ is) (ap (changed h) d ∙ e _ (ap (rowAt (h .rows)) p)) (ws .1 .1 .0) (z₁ h (ap (rowAt (h .rows)) p) ∙ z) l)))))))
 
         -- the row is read
-        reading-slot : {y2 y14 y34 : Val} (r : Ruling) → Is Ruling-row.the-row r (LL.val Ruling-row.the-type Ruling-row′.the-laws r ∷ []) → ruled h [] r ≡ doneOf (stepOf h (stepFor call f room)) → roomSent (h .rows) room (r .verdict) ≡ roomFor h call room → (i : ℕ) → i ≡ rowIndex (r .verdict) → Sq W (‵ (fobs γ (T.the-row .coded .code h)) ∷ ‵ (fbor κ (Body (mem T.the-row) b o γ)) ∷ ‵ (flft κ q) ∷ ‵ Bytes ∷ ‵ (flft κ-f q-f) ∷ ‵ Room′ ∷ ‵ (flft κ-room q-room) ∷ ‵ (froom Answer-row′.mir l0 0) ∷ ‵ (fat fullShare (tyRef (named 0) mut rec-ty) l1 0 (vptr b o)) ∷ ‵ (fat fullShare Call-row′.mir l2 0 y2) ∷ ‵ (fat fullShare (sliceTy (tyRef (named 1) imm (tyInt w8))) l3 0 s-f) ∷ ‵ (fat fullShare (sliceTy (tyRef (named 2) mut (tyInt w8))) l4 0 s-room) ∷ ‵ (froom (tyInt w8) l5 0) ∷ ‵ (froom Control-row′.mir l6 0) ∷ ‵ (froom (tyInt w64) l7 0) ∷ ‵ (froom Row′.mir l8 0) ∷ ‵ (froom (tyInt w8) l9 0) ∷ ‵ (froom (tyInt w8) l10 0) ∷ ‵ (froom Sync-row′.mir l11 0) ∷ ‵ (froom out-ty l12 0) ∷ ‵ (froom out-ty l13 0) ∷ ‵ (fat fullShare (tyInt w8) l14 0 y14) ∷ ‵ (fat fullShare Ruling-row′.mir l15 0 (LL.val Ruling-row.the-type Ruling-row′.the-laws r)) ∷ ‵ (fat fullShare (tyInt w64) l16 0 (vint w64 i)) ∷ ‵ (froom Row′.mir l17 0) ∷ ‵ (froom out-ty l18 0) ∷ ‵ (froom tyBool l19 0) ∷ ‵ (froom Fault-row′.mir l20 0) ∷ ‵ (froom out-ty l21 0) ∷ ‵ (froom out-ty l22 0) ∷ ‵ (froom Answer-row′.mir l23 0) ∷ ‵ (froom T′.mir l24 0) ∷ ‵ (froom (tyInt w64) l25 0) ∷ ‵ (froom tyPtr l26 0) ∷ ‵ (froom tyPtr l27 0) ∷ ‵ (froom Row′.mir l28 0) ∷ ‵ (froom (tyRef erased mut rec-ty) l29 0) ∷ ‵ (froom T′.mir l30 0) ∷ ‵ (froom (tyRef erased mut rec-ty) l31 0) ∷ ‵ (froom T′.mir l32 0) ∷ ‵ (froom (tyRef erased mut rec-ty) l33 0) ∷ ‵ (fat fullShare T′.mir l34 0 y34) ∷ ‵ (froom (tyInt w64) l35 0) ∷ ‵ (froom tyPtr l36 0) ∷ ‵ (froom tyPtr l37 0) ∷ ‵ (froom Row′.mir l38 0) ∷ ‵ (froom (tyRef erased mut (tyInt w8)) l39 0) ∷ ‵ (froom (sliceTy (tyRef erased mut (tyInt w8))) l40 0) ∷ ‵ (froom (tyRef erased mut rec-ty) l41 0) ∷ ‵ (froom (tyRef erased mut rec-ty) l42 0) ∷ ‵ (froom T′.mir l43 0) ∷ ‵ (froom (tyRef erased mut rec-ty) l44 0) ∷ ‵ (froom T′.mir l45 0) ∷ ‵ (froom (tyRef erased mut rec-ty) l46 0) ∷ Dies) (runs C Λ En code-reading-slot (anyQ (Next call)))
+        reading-slot : {y2 y14 y34 : Val} (r : Ruling) → Is Ruling-row.the-row r (LL.val Ruling-row.the-type Ruling-row′.the-laws r ∷ []) → ((k : Contents) → k ≡ rowAt (h .rows) (rowIndex (r .verdict)) → changed h (slotChange r k) ≡ doneOf (stepOf h (stepFor call f room))) → roomSent (h .rows) room (r .verdict) ≡ roomFor h call room → (i : ℕ) → i ≡ rowIndex (r .verdict) → Sq W (‵ (fobs γ (T.the-row .coded .code h)) ∷ ‵ (fbor κ (Body (mem T.the-row) b o γ)) ∷ ‵ (flft κ q) ∷ ‵ Bytes ∷ ‵ (flft κ-f q-f) ∷ ‵ Room′ ∷ ‵ (flft κ-room q-room) ∷ ‵ (froom Answer-row′.mir l0 0) ∷ ‵ (fat fullShare (tyRef (named 0) mut rec-ty) l1 0 (vptr b o)) ∷ ‵ (fat fullShare Call-row′.mir l2 0 y2) ∷ ‵ (fat fullShare (sliceTy (tyRef (named 1) imm (tyInt w8))) l3 0 s-f) ∷ ‵ (fat fullShare (sliceTy (tyRef (named 2) mut (tyInt w8))) l4 0 s-room) ∷ ‵ (froom (tyInt w8) l5 0) ∷ ‵ (froom Control-row′.mir l6 0) ∷ ‵ (froom (tyInt w64) l7 0) ∷ ‵ (froom Row′.mir l8 0) ∷ ‵ (froom (tyInt w8) l9 0) ∷ ‵ (froom (tyInt w8) l10 0) ∷ ‵ (froom Sync-row′.mir l11 0) ∷ ‵ (froom out-ty l12 0) ∷ ‵ (froom out-ty l13 0) ∷ ‵ (fat fullShare (tyInt w8) l14 0 y14) ∷ ‵ (fat fullShare Ruling-row′.mir l15 0 (LL.val Ruling-row.the-type Ruling-row′.the-laws r)) ∷ ‵ (fat fullShare (tyInt w64) l16 0 (vint w64 i)) ∷ ‵ (froom Row′.mir l17 0) ∷ ‵ (froom out-ty l18 0) ∷ ‵ (froom tyBool l19 0) ∷ ‵ (froom Fault-row′.mir l20 0) ∷ ‵ (froom out-ty l21 0) ∷ ‵ (froom out-ty l22 0) ∷ ‵ (froom Answer-row′.mir l23 0) ∷ ‵ (froom T′.mir l24 0) ∷ ‵ (froom (tyInt w64) l25 0) ∷ ‵ (froom tyPtr l26 0) ∷ ‵ (froom tyPtr l27 0) ∷ ‵ (froom Row′.mir l28 0) ∷ ‵ (froom (tyRef erased mut rec-ty) l29 0) ∷ ‵ (froom T′.mir l30 0) ∷ ‵ (froom (tyRef erased mut rec-ty) l31 0) ∷ ‵ (froom T′.mir l32 0) ∷ ‵ (froom (tyRef erased mut rec-ty) l33 0) ∷ ‵ (fat fullShare T′.mir l34 0 y34) ∷ ‵ (froom (tyInt w64) l35 0) ∷ ‵ (froom tyPtr l36 0) ∷ ‵ (froom tyPtr l37 0) ∷ ‵ (froom Row′.mir l38 0) ∷ ‵ (froom (tyRef erased mut (tyInt w8)) l39 0) ∷ ‵ (froom (sliceTy (tyRef erased mut (tyInt w8))) l40 0) ∷ ‵ (froom (tyRef erased mut rec-ty) l41 0) ∷ ‵ (froom (tyRef erased mut rec-ty) l42 0) ∷ ‵ (froom T′.mir l43 0) ∷ ‵ (froom (tyRef erased mut rec-ty) l44 0) ∷ ‵ (froom T′.mir l45 0) ∷ ‵ (froom (tyRef erased mut rec-ty) l46 0) ∷ Dies) (runs C Λ En code-reading-slot (anyQ (Next call)))
         reading-slot r r-is e z i p =
             opens ! tt T.the-row {h = h} b o (λ vs. spelt ! T.the-row (Is T.the-row) (shows 𝓤 H A T.the-row) (LL.vals T.the-type T′.the-laws) (LL.tells T.the-type T′.the-laws) fullShare h vs b o $
             move ! (1 ∷ []) $ peeks ! T.the-row (Is T.the-row) (shows 𝓤 H A T.the-row) h (mach h ∷ []) (λ was.
@@ -708,7 +708,7 @@ module _ {M : Type 1} (𝓤 : URA M) (H : Heap 𝓤) (A : Atoms 𝓤) (W : Given
             making-slot r r-is e z i p (sixteen-rows h was) (row-is h was i (row-below (r .verdict) i p))))
 
         -- the index of its row
-        finding-slot : {y2 y14 y34 : Val} (r : Ruling) → Is Ruling-row.the-row r (LL.val Ruling-row.the-type Ruling-row′.the-laws r ∷ []) → ruled h [] r ≡ doneOf (stepOf h (stepFor call f room)) → roomSent (h .rows) room (r .verdict) ≡ roomFor h call room → Sq W (‵ (fobs γ (T.the-row .coded .code h)) ∷ ‵ (fbor κ (Body (mem T.the-row) b o γ)) ∷ ‵ (flft κ q) ∷ ‵ Bytes ∷ ‵ (flft κ-f q-f) ∷ ‵ Room′ ∷ ‵ (flft κ-room q-room) ∷ ‵ (froom Answer-row′.mir l0 0) ∷ ‵ (fat fullShare (tyRef (named 0) mut rec-ty) l1 0 (vptr b o)) ∷ ‵ (fat fullShare Call-row′.mir l2 0 y2) ∷ ‵ (fat fullShare (sliceTy (tyRef (named 1) imm (tyInt w8))) l3 0 s-f) ∷ ‵ (fat fullShare (sliceTy (tyRef (named 2) mut (tyInt w8))) l4 0 s-room) ∷ ‵ (froom (tyInt w8) l5 0) ∷ ‵ (froom Control-row′.mir l6 0) ∷ ‵ (froom (tyInt w64) l7 0) ∷ ‵ (froom Row′.mir l8 0) ∷ ‵ (froom (tyInt w8) l9 0) ∷ ‵ (froom (tyInt w8) l10 0) ∷ ‵ (froom Sync-row′.mir l11 0) ∷ ‵ (froom out-ty l12 0) ∷ ‵ (froom out-ty l13 0) ∷ ‵ (fat fullShare (tyInt w8) l14 0 y14) ∷ ‵ (fat fullShare Ruling-row′.mir l15 0 (LL.val Ruling-row.the-type Ruling-row′.the-laws r)) ∷ ‵ (froom (tyInt w64) l16 0) ∷ ‵ (froom Row′.mir l17 0) ∷ ‵ (froom out-ty l18 0) ∷ ‵ (froom tyBool l19 0) ∷ ‵ (froom Fault-row′.mir l20 0) ∷ ‵ (froom out-ty l21 0) ∷ ‵ (froom out-ty l22 0) ∷ ‵ (froom Answer-row′.mir l23 0) ∷ ‵ (froom T′.mir l24 0) ∷ ‵ (froom (tyInt w64) l25 0) ∷ ‵ (froom tyPtr l26 0) ∷ ‵ (froom tyPtr l27 0) ∷ ‵ (froom Row′.mir l28 0) ∷ ‵ (froom (tyRef erased mut rec-ty) l29 0) ∷ ‵ (froom T′.mir l30 0) ∷ ‵ (froom (tyRef erased mut rec-ty) l31 0) ∷ ‵ (froom T′.mir l32 0) ∷ ‵ (froom (tyRef erased mut rec-ty) l33 0) ∷ ‵ (fat fullShare T′.mir l34 0 y34) ∷ ‵ (froom (tyInt w64) l35 0) ∷ ‵ (froom tyPtr l36 0) ∷ ‵ (froom tyPtr l37 0) ∷ ‵ (froom Row′.mir l38 0) ∷ ‵ (froom (tyRef erased mut (tyInt w8)) l39 0) ∷ ‵ (froom (sliceTy (tyRef erased mut (tyInt w8))) l40 0) ∷ ‵ (froom (tyRef erased mut rec-ty) l41 0) ∷ ‵ (froom (tyRef erased mut rec-ty) l42 0) ∷ ‵ (froom T′.mir l43 0) ∷ ‵ (froom (tyRef erased mut rec-ty) l44 0) ∷ ‵ (froom T′.mir l45 0) ∷ ‵ (froom (tyRef erased mut rec-ty) l46 0) ∷ Dies) (runs C Λ En code-finding-slot (anyQ (Next call)))
+        finding-slot : {y2 y14 y34 : Val} (r : Ruling) → Is Ruling-row.the-row r (LL.val Ruling-row.the-type Ruling-row′.the-laws r ∷ []) → ((k : Contents) → k ≡ rowAt (h .rows) (rowIndex (r .verdict)) → changed h (slotChange r k) ≡ doneOf (stepOf h (stepFor call f room))) → roomSent (h .rows) room (r .verdict) ≡ roomFor h call room → Sq W (‵ (fobs γ (T.the-row .coded .code h)) ∷ ‵ (fbor κ (Body (mem T.the-row) b o γ)) ∷ ‵ (flft κ q) ∷ ‵ Bytes ∷ ‵ (flft κ-f q-f) ∷ ‵ Room′ ∷ ‵ (flft κ-room q-room) ∷ ‵ (froom Answer-row′.mir l0 0) ∷ ‵ (fat fullShare (tyRef (named 0) mut rec-ty) l1 0 (vptr b o)) ∷ ‵ (fat fullShare Call-row′.mir l2 0 y2) ∷ ‵ (fat fullShare (sliceTy (tyRef (named 1) imm (tyInt w8))) l3 0 s-f) ∷ ‵ (fat fullShare (sliceTy (tyRef (named 2) mut (tyInt w8))) l4 0 s-room) ∷ ‵ (froom (tyInt w8) l5 0) ∷ ‵ (froom Control-row′.mir l6 0) ∷ ‵ (froom (tyInt w64) l7 0) ∷ ‵ (froom Row′.mir l8 0) ∷ ‵ (froom (tyInt w8) l9 0) ∷ ‵ (froom (tyInt w8) l10 0) ∷ ‵ (froom Sync-row′.mir l11 0) ∷ ‵ (froom out-ty l12 0) ∷ ‵ (froom out-ty l13 0) ∷ ‵ (fat fullShare (tyInt w8) l14 0 y14) ∷ ‵ (fat fullShare Ruling-row′.mir l15 0 (LL.val Ruling-row.the-type Ruling-row′.the-laws r)) ∷ ‵ (froom (tyInt w64) l16 0) ∷ ‵ (froom Row′.mir l17 0) ∷ ‵ (froom out-ty l18 0) ∷ ‵ (froom tyBool l19 0) ∷ ‵ (froom Fault-row′.mir l20 0) ∷ ‵ (froom out-ty l21 0) ∷ ‵ (froom out-ty l22 0) ∷ ‵ (froom Answer-row′.mir l23 0) ∷ ‵ (froom T′.mir l24 0) ∷ ‵ (froom (tyInt w64) l25 0) ∷ ‵ (froom tyPtr l26 0) ∷ ‵ (froom tyPtr l27 0) ∷ ‵ (froom Row′.mir l28 0) ∷ ‵ (froom (tyRef erased mut rec-ty) l29 0) ∷ ‵ (froom T′.mir l30 0) ∷ ‵ (froom (tyRef erased mut rec-ty) l31 0) ∷ ‵ (froom T′.mir l32 0) ∷ ‵ (froom (tyRef erased mut rec-ty) l33 0) ∷ ‵ (fat fullShare T′.mir l34 0 y34) ∷ ‵ (froom (tyInt w64) l35 0) ∷ ‵ (froom tyPtr l36 0) ∷ ‵ (froom tyPtr l37 0) ∷ ‵ (froom Row′.mir l38 0) ∷ ‵ (froom (tyRef erased mut (tyInt w8)) l39 0) ∷ ‵ (froom (sliceTy (tyRef erased mut (tyInt w8))) l40 0) ∷ ‵ (froom (tyRef erased mut rec-ty) l41 0) ∷ ‵ (froom (tyRef erased mut rec-ty) l42 0) ∷ ‵ (froom T′.mir l43 0) ∷ ‵ (froom (tyRef erased mut rec-ty) l44 0) ∷ ‵ (froom T′.mir l45 0) ∷ ‵ (froom (tyRef erased mut rec-ty) l46 0) ∷ Dies) (runs C Λ En code-finding-slot (anyQ (Next call)))
         finding-slot r r-is e z =
             use0 W (raw ((Rows 𝓤 H A at-mem run) .pre (to-rows r))) (asked-rows r r-is) $
             calls-at ! fm (Rows 𝓤 H A at-mem run) known-rows (to-rows r) (and-then ! (load ! (from ! (stop !)) (look ! 23 refl)) (no-more !)) (λ v.
@@ -735,7 +735,7 @@ module _ {M : Type 1} (𝓤 : URA M) (H : Heap 𝓤) (A : Atoms 𝓤) (W : Given
             split ! $ move ! (1 ∷ []) $ heard ! (r ≡ slotRuling h n (length room)) (λ e. drop ! $ split ! $ drop ! $
             peeks ! Ruling-row.the-row (Is Ruling-row.the-row) (shows 𝓤 H A Ruling-row.the-row) r (v ∷ []) (λ is. drop ! $
             land ! (from ! (stop !)) (init ! 22 refl (LL.lawful Ruling-row.the-type Ruling-row′.the-laws 𝓤 H A W .typed r _ is .0)) $ rewrite ! 22 (λ (u : Val). ‵ (fat fullShare Ruling-row′.mir l15 0 u)) (ap only (LL.tells Ruling-row.the-type Ruling-row′.the-laws r _ is)) refl $
-            forget ! 42 refl $ finding-slot r (ruling-is r _ is) (ap (ruled h []) e ∙ slot-ruled h n room ∙ ap (λ (s : Step). doneOf (stepOf h s)) s) (ap (λ (r : Ruling). roomSent (h .rows) room (r .verdict)) e ∙ slot-sends h (sixteen-rows h was) n room ∙ z))))))))
+            forget ! 42 refl $ finding-slot r (ruling-is r _ is) (λ k same. slot-changes h (sixteen-rows h was) n room r e k same ∙ ap (λ (s : Step). doneOf (stepOf h s)) s) (ap (λ (r : Ruling). roomSent (h .rows) room (r .verdict)) e ∙ slot-sends h (sixteen-rows h was) n room ∙ z))))))))
 
         -- Frame
         on-frame : {y2 : Val} (good : Bool) → frameStep good f ≡ stepFor call f room → room ≡ roomFor h call room → Sq W (‵ Rec ∷ ‵ (flft κ q) ∷ ‵ Bytes ∷ ‵ (flft κ-f q-f) ∷ ‵ Room′ ∷ ‵ (flft κ-room q-room) ∷ ‵ (froom Answer-row′.mir l0 0) ∷ ‵ (fat fullShare (tyRef (named 0) mut rec-ty) l1 0 (vptr b o)) ∷ ‵ (fat fullShare Call-row′.mir l2 0 y2) ∷ ‵ (fat fullShare (sliceTy (tyRef (named 1) imm (tyInt w8))) l3 0 s-f) ∷ ‵ (fat fullShare (sliceTy (tyRef (named 2) mut (tyInt w8))) l4 0 s-room) ∷ ‵ (froom (tyInt w8) l5 0) ∷ ‵ (froom Control-row′.mir l6 0) ∷ ‵ (froom (tyInt w64) l7 0) ∷ ‵ (froom Row′.mir l8 0) ∷ ‵ (froom (tyInt w8) l9 0) ∷ ‵ (froom (tyInt w8) l10 0) ∷ ‵ (froom Sync-row′.mir l11 0) ∷ ‵ (froom out-ty l12 0) ∷ ‵ (froom out-ty l13 0) ∷ ‵ (froom (tyInt w8) l14 0) ∷ ‵ (froom Ruling-row′.mir l15 0) ∷ ‵ (froom (tyInt w64) l16 0) ∷ ‵ (froom Row′.mir l17 0) ∷ ‵ (froom out-ty l18 0) ∷ ‵ (fat fullShare tyBool l19 0 (vbool good)) ∷ ‵ (froom Fault-row′.mir l20 0) ∷ ‵ (froom out-ty l21 0) ∷ ‵ (froom out-ty l22 0) ∷ ‵ (froom Answer-row′.mir l23 0) ∷ ‵ (froom T′.mir l24 0) ∷ ‵ (froom (tyInt w64) l25 0) ∷ ‵ (froom tyPtr l26 0) ∷ ‵ (froom tyPtr l27 0) ∷ ‵ (froom Row′.mir l28 0) ∷ ‵ (froom (tyRef erased mut rec-ty) l29 0) ∷ ‵ (froom T′.mir l30 0) ∷ ‵ (froom (tyRef erased mut rec-ty) l31 0) ∷ ‵ (froom T′.mir l32 0) ∷ ‵ (froom (tyRef erased mut rec-ty) l33 0) ∷ ‵ (froom T′.mir l34 0) ∷ ‵ (froom (tyInt w64) l35 0) ∷ ‵ (froom tyPtr l36 0) ∷ ‵ (froom tyPtr l37 0) ∷ ‵ (froom Row′.mir l38 0) ∷ ‵ (froom (tyRef erased mut (tyInt w8)) l39 0) ∷ ‵ (froom (sliceTy (tyRef erased mut (tyInt w8))) l40 0) ∷ ‵ (froom (tyRef erased mut rec-ty) l41 0) ∷ ‵ (froom (tyRef erased mut rec-ty) l42 0) ∷ ‵ (froom T′.mir l43 0) ∷ ‵ (froom (tyRef erased mut rec-ty) l44 0) ∷ ‵ (froom T′.mir l45 0) ∷ ‵ (froom (tyRef erased mut rec-ty) l46 0) ∷ Dies) (runs C Λ En code-frame (anyQ (Next call)))

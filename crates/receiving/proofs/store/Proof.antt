@@ -63,16 +63,16 @@ returns c =
     let start = c .before .before .before .before .before in
     let full : c .before .before .loop .k ≡ taken (start .args .len) (start .args .bytes .now) = omega (arith, ltb-false) in
     c .before .before .loop .inv .4
-    ∙ store-copied (start .args .old) (start .args .ident) (start .args .len) (start .args .bytes .now) (c .before .before .before .cut .result)
-    (c .before .before .loop .k) (search needs) (c .before .before .before .cut .ensures) full
+    ∙ store-copied (start .args .ident) (start .args .len) (start .args .bytes .now) (c .before .before .before .cut .result)
+    (c .before .before .loop .k) (c .before .before .before .cut .ensures) full
 
 returns-2 : tie.Need-returns-2 Inv-loop μ-loop
 returns-2 c =
     let start = c .before .before .before .before in
     let full : c .before .loop .k ≡ taken (start .args .len) (start .args .bytes .now) = omega arith in
     c .before .loop .inv .4
-    ∙ store-copied (start .args .old) (start .args .ident) (start .args .len) (start .args .bytes .now) (c .before .before .cut .result)
-    (c .before .loop .k) (search needs) (c .before .before .cut .ensures) full
+    ∙ store-copied (start .args .ident) (start .args .len) (start .args .bytes .now) (c .before .before .cut .result)
+    (c .before .loop .k) (c .before .before .cut .ensures) full
 
 pub store-spec : {M : Type 1} → statement M
 store-spec =

@@ -20,7 +20,7 @@ returns : tie.Need-returns
 returns c =
     let a = c .before .before .before .before .before .before .args in
     c .store .ensures
-    ∙ store-short (a .b) (a .f .now) _ _ (c .before .before .before .byte-or-zero .ensures) (c .before .before .byte-or-zero2 .ensures)
+    ∙ store-short (a .f .now) _ _ (c .before .before .before .byte-or-zero .ensures) (c .before .before .byte-or-zero2 .ensures)
     (c .before .before .before .before .if1 .taken)
 
 shared-slice-read-store : tie.Need-shared-slice-read-store
@@ -44,7 +44,7 @@ store-requires-2 c κs = search needs
 returns-2 : tie.Need-returns-2
 returns-2 c =
     let a = c .before .before .before .before .before .before .args in
-    c .store2 .ensures ∙ store-rest (a .b) (a .f .now)
+    c .store2 .ensures ∙ store-rest (a .f .now)
 
 pub store-frame-spec : {M : Type 1} → statement M
 store-frame-spec =

@@ -1,13 +1,12 @@
 use mathlib.Core.Path.{sym, ap, _∙_}
-use mathlib.Core.List.{[]}
 use native.Mathlib.Omega.{arith}
 use lib.ListN.{length-map}
 use borrow.Author.Needs.{needs}
 use Rattle.rules.specs.declared.Ruling.{Ruling}
 use Rattle.controller.specs.Carry.{rowAt}
-use Rattle.controller.specs.Code.{changed, ruled, roomSent}
-use Rattle.controller.specs.CodeLaws.{row-within, slot-ruled}
-use Rattle.controller.proofs.EventLaws.{ruling-changes, slot-sends}
+use Rattle.controller.specs.Code.{changed, roomSent}
+use Rattle.controller.specs.CodeLaws.{row-within}
+use Rattle.controller.proofs.EventLaws.{slot-changes, slot-sends}
 use Rattle.controller.proofs.Controller.slot.Statement.{statement}
 use Rattle.controller.proofs.Controller.slot.Tie as tie
 
@@ -45,7 +44,7 @@ returns c =
     let same = ap (rowAt (self .rows)) (c .before .before .before .before .before .before .row-of .ensures) in
     let r = c .before .before .before .before .before .before .before .slot-ruling .ensures in
     let x = c .before .before .before .slot-change .ensures in (
-      c .carried .ensures ∙ ap (changed self) (x .0) ∙ ruling-changes self sixteen [] _ _ same ∙ ap (ruled self []) r ∙ slot-ruled self (start .args .i) room,
+      c .carried .ensures ∙ ap (changed self) (x .0) ∙ slot-changes self sixteen (start .args .i) room _ r _ same,
       x .1 self same ∙ ap (λ (k : Ruling). roomSent (self .rows) room (k .verdict)) r ∙ slot-sends self sixteen (start .args .i) room,
     )
 

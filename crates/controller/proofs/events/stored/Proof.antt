@@ -23,9 +23,9 @@ with-bytes-requires c κs = search needs
 
 returns-2 : tie.Need-returns-2
 returns-2 c =
-    let a = c .before .before .before .before .before .args in
+    let a = c .before .before .before .before .args in
     c .with-bytes .ensures ∙ ap (λ (b : List ℕ). placing (a .c) (a .n) b (a .a)) (c .before .store-frame .ensures)
-    ∙ sym (pick-true (ltb (a .n) 16) _ _ (lt-ltb (a .n) 16 (c .before .before .before .if1 .left)))
+    ∙ sym (pick-true (ltb (a .n) 16) _ _ (lt-ltb (a .n) 16 (c .before .before .if1 .left)))
 
 pub stored-spec : {M : Type 1} → statement M
 stored-spec =

@@ -1,0 +1,245 @@
+-- A buffer's bytes from step to step, and what a register reads that shows one.
+use mathlib.Core.Path.{_≡_, refl, sym, ap, ap₂, _∙_}
+use Prim.Native.Nat.{ℕ, zero, suc, _+_, _-_, _≤_}
+use mathlib.Core.Bool.{Bool, true, false, _&&_, not, and-eq-true-iff, false≢true}
+use mathlib.Core.List.{List, [], _∷_}
+use native.Mathlib.Omega.{arith}
+use borrow.Author.Tests.{eqb-true, eqb-false, eq-eqb, ne-eqb, le-ltb, ltb-true, ltb-false, not-true}
+use lib.ListN.{getD, set, length, List·getD-eq-default}
+use lib.Seq.{set-out, getD-set-same, getD-set-other}
+use lib.Dec.{eqb, ltb}
+use Rattle.masks.specs.Pick.{pick}
+use Rattle.masks.specs.PickLaws.{pick-true, pick-false, by-test}
+use Rattle.contents.specs.declared.Contents.{Contents}
+use Rattle.contents.specs.Bytes.{Head, noContents, cut, imageOf}
+use Rattle.contents.specs.BytesLaws.{image-behind, ident-other, length-other, data-other}
+use Rattle.rules.specs.declared.Register.{Register}
+use Rattle.rules.specs.declared.Register.the-variants.{Reserved}
+use Rattle.rules.specs.declared.Answer.{Answer}
+use Rattle.rules.specs.declared.Answer.the-variants.{Value, Refused}
+use Rattle.rules.specs.Registers.{Region, sendPlace, receivePlace, fifoPlace, elsewhere, regionOf, registerAt, lowMap}
+use Rattle.rules.specs.Kinds.{fifoHolder}
+use Rattle.rules.specs.Refusals.{refusal, readRefusal, writeRefusal, firstOf, refuses1, refuses2, refuses11}
+use Rattle.rules.specs.Reads.{windowReply, replyIn, readReply}
+use Rattle.rules.specs.Writes.{windowMoves, movesIn, writeMoves}
+use Rattle.rules.specs.Answers.{isPut, isPutIn, numberIn, givenOf}
+use Rattle.rules.specs.Steps.{Step, reset, read, write, sync, syncDue, slot, frame, fault, timeout, dataRegister}
+use Rattle.rules.specs.Plan.{Plan}
+use Rattle.rules.specs.Rules.{act, decide}
+use Rattle.rules.specs.StoringLaws.{FramePlan, drops, puts, frame-plan}
+use Rattle.bus_steps.specs.CodeLaws.{SlotPlan, says, sends}
+use Rattle.controller.specs.declared.Controller.{Controller}
+use Rattle.controller.specs.declared.Done.{Done}
+use Rattle.controller.specs.Carry.{heads, rowAt, moveAll, answerOf, Outcome, carry}
+use Rattle.controller.specs.Session.{stepOf, endBy, endOf}
+use Rattle.controller.specs.Calls.{doneOf}
+use Rattle.controller.specs.BufferBytes.{byteAt, isPlaceOf, shows, mayChange, spares}
+use Rattle.controller.specs.Code.{changed, eventChange, writePlace}
+use Rattle.controller.specs.CodeLaws.{step-plain, placed-none, sync-changes, sync-due-changes, fault-changes, timeout-changes, slotPlan, slot-plain}
+use Rattle.controller.specs.AccessLaws.{window-moves, write-accepted, write-refused}
+use Rattle.controller.specs.ViewLaws.{head-at}
+use Rattle.controller.specs.Unchanged.{read-unchanged}
+
+-- ---- a frame
+
+-- the answers "stored" and "queued" name one buffer
+same-put : (m n : ℕ) (a : Answer) → isPutIn m a ≡ true → isPutIn n a ≡ true → m ≡ n
+same-put m n a x y =
+    sym (eqb-true (numberIn (givenOf a)) m (and-eq-true-iff (isPut a) (eqb (numberIn (givenOf a)) m) .0 x .1))
+    ∙ eqb-true (numberIn (givenOf a)) n (and-eq-true-iff (isPut a) (eqb (numberIn (givenOf a)) n) .0 y .1)
+
+-- one that names no buffer names not this one
+no-put : (n : ℕ) (a : Answer) → isPut a ≡ false → isPutIn n a ≡ false
+no-put n a e = simp e
+
+put-plan : (rows : List Contents) (good : Bool) (f : List ℕ) (n : ℕ) (p : Plan) → FramePlan p →
+    isPutIn n (carry (frame good f) rows p .answer) ≡ true → carry (frame good f) rows p .next .rows ≡ set rows n (imageOf f)
+unfolding carry moveAll
+put-plan rows good f n p (drops d a q) x = absurd (false≢true (sym (no-put n a q) ∙ x))
+put-plan rows good f n p (puts d m a q) x = ap (λ (i : ℕ). set rows i (imageOf f)) (same-put m n a q x)
+
+pub put-rows : (c : Controller) (good : Bool) (f : List ℕ) (n : ℕ) → isPutIn n (stepOf c (frame good f) .answer) ≡ true →
+    stepOf c (frame good f) .next .rows ≡ set (c .rows) n (imageOf f)
+put-rows c good f n x =
+    let same = step-plain c (frame good f) in
+    ap (λ (o : Outcome). o .next .rows) same
+    ∙ put-plan (c .rows) good f n _ (frame-plan (c .control) (heads (c .rows)) good f) (ap (λ (o : Outcome). isPutIn n (o .answer)) (sym same) ∙ x)
+
+-- a frame of another size is refused
+
+size-refused : (c : Controller) (good : Bool) (f : List ℕ) → eqb (length f) (2 + cut (getD f 1 0)) ≡ false →
+    carry (frame good f) (c .rows) (decide (c .control) (heads (c .rows)) (frame good f)) .answer ≡ Refused 11
+unfolding carry decide refusal refuses11 pick
+size-refused c good f t = simp t
+
+pub put-size : (c : Controller) (good : Bool) (f : List ℕ) (n : ℕ) → isPutIn n (stepOf c (frame good f) .answer) ≡ true → length f ≡ 2 + cut (getD f 1 0)
+put-size c good f n x =
+    let size = 2 + cut (getD f 1 0) in
+    eqb-true (length f) size
+    (by-test (eqb (length f) size) (λ t. t)
+    (λ t. absurd (false≢true (ap (isPutIn n) (sym (ap (λ (o : Outcome). o .answer) (step-plain c (frame good f)) ∙ size-refused c good f t)) ∙ x))))
+
+-- one that is put elsewhere, or nowhere, leaves the buffer
+unput-plan : (rows : List Contents) (good : Bool) (f : List ℕ) (n : ℕ) (p : Plan) → FramePlan p →
+    isPutIn n (carry (frame good f) rows p .answer) ≡ false → rowAt (carry (frame good f) rows p .next .rows) n ≡ rowAt rows n
+unfolding carry moveAll
+unput-plan rows good f n p (drops d a q) x = refl
+unput-plan rows good f n p (puts d m a q) x =
+    getD-set-other rows m n (imageOf f) noContents (λ e. false≢true (sym x ∙ ap (λ (i : ℕ). isPutIn i a) e ∙ q))
+
+-- a buffer that a frame was put in, or none
+pub zero-at : (c : Controller) (good : Bool) (f : List ℕ) (n k : ℕ) → isPutIn n (stepOf c (frame good f) .answer) ≡ true → length f ≤ k →
+    byteAt (stepOf c (frame good f) .next) n k ≡ 0
+zero-at c good f n k put h =
+    ap (λ (rows : List Contents). getD (rowAt rows n .bytes) k 0) (put-rows c good f n put)
+    ∙ by-test (ltb n (length (c .rows)))
+    (λ t. ap (λ (b : Contents). getD (b .bytes) k 0) (getD-set-same (c .rows) n (imageOf f) noContents (ltb-true n (length (c .rows)) t)) ∙ image-behind f k h)
+    (λ t. let past = ltb-false n (length (c .rows)) t in
+    ap (λ (rows : List Contents). getD (rowAt rows n .bytes) k 0) (set-out (c .rows) n (imageOf f) past)
+    ∙ ap (λ (b : Contents). getD (b .bytes) k 0) (List·getD-eq-default (c .rows) noContents past))
+
+-- ---- a write
+
+-- place p of a buffer's window written leaves its other bytes
+place-other : (b : Contents) (p v k : ℕ) → (k ≡ p → ⊥) → getD (writePlace b p v .bytes) k 0 ≡ getD (b .bytes) k 0
+unfolding writePlace
+place-other b p v k apart =
+    by-test (eqb p 0)
+    (λ t. simp (pick-true, t) (ident-other b v k (λ e. apart (e ∙ sym (eqb-true p 0 t)))))
+    (λ t. by-test (eqb p 1)
+    (λ u. simp (pick-true, pick-false, t, u) (length-other b _ k (λ e. apart (e ∙ sym (eqb-true p 1 u)))))
+    (λ u. simp (pick-false, t, u) (data-other b (p - 2) v k (λ e. apart (e ∙ back (eqb-false p 0 t) (eqb-false p 1 u))))))
+  where
+    back : (p ≡ 0 → ⊥) → (p ≡ 1 → ⊥) → suc (suc (p - 2)) ≡ p
+    back x y = omega (arith, x, y)
+
+-- buffer h with place p written: every other byte of every buffer stays
+written-other : (rows : List Contents) (h p v n k : ℕ) → (eqb h n && eqb p k) ≡ false →
+    getD (rowAt (set rows h (writePlace (rowAt rows h) p v)) n .bytes) k 0 ≡ getD (rowAt rows n .bytes) k 0
+written-other rows h p v n k apart = by-test (eqb h n) own (λ t. ap byte (getD-set-other rows h n _ noContents (λ e. eqb-false h n t (sym e))))
+  where
+    byte : Contents → ℕ
+    byte b = getD (b .bytes) k 0
+
+    other : eqb h n ≡ true → k ≡ p → ⊥
+    other t e = false≢true (sym apart ∙ simp (t, eq-eqb p k (sym e)))
+
+    own : eqb h n ≡ true → getD (rowAt (set rows h (writePlace (rowAt rows h) p v)) n .bytes) k 0 ≡ getD (rowAt rows n .bytes) k 0
+    own t =
+        let same = eqb-true h n t in
+        ap (λ (i : ℕ). byte (rowAt (set rows h (writePlace (rowAt rows h) p v)) i)) (sym same)
+        ∙ by-test (ltb h (length rows))
+        (λ u. ap byte (getD-set-same rows h _ noContents (ltb-true h (length rows) u)) ∙ place-other (rowAt rows h) p v k (other t))
+        (λ u. ap (λ (x : List Contents). byte (rowAt x h)) (set-out rows h _ (ltb-false h (length rows) u)))
+        ∙ ap (λ (i : ℕ). byte (rowAt rows i)) same
+
+module _ (c : Controller) (a v n k : ℕ) where
+  window-other : (h p : ℕ) → (eqb h n && eqb p k) ≡ false → getD (rowAt (moveAll (write a v) (windowMoves h p v) (c .rows)) n .bytes) k 0 ≡ byteAt c n k
+  window-other h p apart =
+      ap (λ (rows : List Contents). getD (rowAt rows n .bytes) k 0) (sym (window-moves c a v h p)) ∙ written-other (c .rows) h p v n k apart
+
+  region-other : (g : Region) → isPlaceOf (c .control) n k g ≡ false → getD (rowAt (moveAll (write a v) (movesIn (c .control) g v) (c .rows)) n .bytes) k 0 ≡ byteAt c n k
+  unfolding moveAll
+  region-other (sendPlace p) e = window-other (c .control .transmit .holder) p e
+  region-other (receivePlace p) e = window-other (c .control .receive .holder) p e
+  region-other (fifoPlace p) e = refl
+  region-other elsewhere e = refl
+
+  write-keeps : mayChange c n k (write a v) ≡ false → byteAt (stepOf c (write a v) .next) n k ≡ byteAt c n k
+  unfolding mayChange refusal shows writeMoves
+  write-keeps e =
+      by-test (eqb (writeRefusal (c .control) a v) 0)
+      (λ t. ap (λ (d : Done). byteAt (d .next) n k) (write-accepted c a v (eqb-true (writeRefusal (c .control) a v) 0 t)) ∙ region-other (regionOf (registerAt a)) (simp t at e))
+      (λ t. ap (λ (d : Done). byteAt (d .next) n k) (write-refused c a v t))
+
+-- ---- any step
+
+slot-rows : (e : Step) (rows : List Contents) (p : Plan) → SlotPlan p → carry e rows p .next .rows ≡ rows
+unfolding carry moveAll
+slot-rows e rows p (says d a) = refl
+slot-rows e rows p (sends d n) = refl
+
+module _ (c : Controller) (n k : ℕ) where
+  -- a step that only answers
+  event-keeps : (e : Step) → changed c (eventChange c e) ≡ doneOf (stepOf c e) → byteAt (stepOf c e .next) n k ≡ byteAt c n k
+  event-keeps e same =
+      ap (λ (d : Done). byteAt (d .next) n k) (sym same)
+      ∙ ap (λ (rows : List Contents). getD (rowAt rows n .bytes) k 0) (placed-none (c .rows) 16 _ (omega arith))
+
+  pub step-keeps : (e : Step) → mayChange c n k e ≡ false → byteAt (stepOf c e .next) n k ≡ byteAt c n k
+  unfolding mayChange
+  step-keeps reset x = absurd (false≢true (sym x))
+  step-keeps (read a) x = ap (λ (d : Controller). byteAt d n k) (read-unchanged c a)
+  step-keeps (write a v) x = write-keeps c a v n k x
+  step-keeps (sync s) x = event-keeps (sync s) (sync-changes c s)
+  step-keeps syncDue x = event-keeps syncDue (sync-due-changes c)
+  step-keeps (slot i room) x =
+      ap (λ (o : Outcome). byteAt (o .next) n k) (step-plain c (slot i room))
+      ∙ ap (λ (rows : List Contents). getD (rowAt rows n .bytes) k 0) (slot-rows (slot i room) (c .rows) (slotPlan c i room) (slot-plain c i room))
+  step-keeps (frame good f) x =
+      let same = step-plain c (frame good f) in
+      ap (λ (o : Outcome). byteAt (o .next) n k) same
+      ∙ ap (λ (b : Contents). getD (b .bytes) k 0)
+      (unput-plan (c .rows) good f n _ (frame-plan (c .control) (heads (c .rows)) good f) (ap (λ (o : Outcome). isPutIn n (o .answer)) (sym same) ∙ x))
+  step-keeps (fault s) x = event-keeps (fault s) (fault-changes c s)
+  step-keeps timeout x = event-keeps timeout (timeout-changes c)
+
+pub session-keeps : (c : Controller) (n k : ℕ) (es : List Step) → spares c n k es ≡ true → byteAt (endOf c es) n k ≡ byteAt c n k
+unfolding endOf endBy spares stepOf
+session-keeps c n k [] x = refl
+session-keeps c n k (e ∷ es) x =
+    let both = and-eq-true-iff (not (mayChange c n k e)) (spares (stepOf c e .next) n k es) .0 x in
+    session-keeps (stepOf c e .next) n k es (both .1) ∙ step-keeps c n k e (not-true (mayChange c n k e) (both .0))
+
+-- ---- a read
+
+-- no register past the last address is in a window
+past-map : (a : ℕ) → 0x60 ≤ a → registerAt a ≡ Reserved
+unfolding registerAt pick
+past-map a h = simp (le-ltb a 0x20 (omega arith), le-ltb a 0x30 (omega arith), le-ltb a 0x40 (omega arith), le-ltb a 0x50 (omega arith), le-ltb a 0x60 h)
+
+none-shown : (d : Bool) (x : ℕ) → x ≡ 0 → pick d x 0 ≡ 0
+unfolding pick
+none-shown true x e = e
+none-shown false x e = refl
+
+module _ (c : Controller) (a n : ℕ) where
+  -- place k of the window of n, whose byte k is 0
+  place-reads : (k : ℕ) → byteAt c n k ≡ 0 → answerOf (read a) (c .rows) (windowReply (heads (c .rows)) n k) ≡ Value 0
+  unfolding windowReply pick
+  place-reads zero z = ap Value (ap (λ (h : Head). h .ident) (head-at (c .rows) n) ∙ z)
+  place-reads (suc zero) z = ap Value (ap (λ (h : Head). h .len) (head-at (c .rows) n) ∙ z)
+  place-reads (suc (suc j)) z =
+      let back : suc (suc j) - 2 ≡ j = omega arith in
+      simp (le-ltb (suc (suc j)) 2 (omega arith), back) (by-test (ltb n 16) (λ t. simp t (ap Value (none-shown (dataRegister a) _ z))) (λ t. simp t))
+
+  window-reads : (h p k : ℕ) → (eqb h n && eqb p k) ≡ true → byteAt c n k ≡ 0 → answerOf (read a) (c .rows) (windowReply (heads (c .rows)) h p) ≡ Value 0
+  window-reads h p k e z =
+      let both = and-eq-true-iff (eqb h n) (eqb p k) .0 e in
+      ap₂ (λ (x y : ℕ). answerOf (read a) (c .rows) (windowReply (heads (c .rows)) x y)) (eqb-true h n (both .0)) (eqb-true p k (both .1)) ∙ place-reads k z
+
+  region-reads : (k : ℕ) (g : Region) (v : ℕ) → isPlaceOf (c .control) n k g ≡ true → byteAt c n k ≡ 0 →
+      answerOf (read a) (c .rows) (replyIn (c .control) (heads (c .rows)) g v) ≡ Value 0
+  region-reads k (sendPlace p) v e z = window-reads (c .control .transmit .holder) p k e z
+  region-reads k (receivePlace p) v e z = window-reads (c .control .receive .holder) p k e z
+  region-reads k (fifoPlace p) v e z = window-reads (fifoHolder (c .control)) p k e z
+  region-reads k elsewhere v e z = absurd (false≢true e)
+
+module _ (c : Controller) (n k a : ℕ) (shown : shows (c .control) n k a ≡ true) where
+  in-map : ltb 0x5F a ≡ false
+  unfolding shows
+  in-map =
+      by-test (ltb 0x5F a)
+      (λ t. let past = ltb-true 0x5F a t in
+      absurd (false≢true (ap (λ (r : Register). isPlaceOf (c .control) n k (regionOf r)) (sym (past-map a (omega arith))) ∙ shown)))
+      (λ t. t)
+
+  not-mcr : eqb a 0 ≡ false
+  unfolding shows registerAt lowMap pick
+  not-mcr = ne-eqb a 0 (λ e. false≢true (ap (λ (x : ℕ). isPlaceOf (c .control) n k (regionOf (registerAt x))) (sym e) ∙ shown))
+
+  pub zero-read : byteAt c n k ≡ 0 → stepOf c (read a) .answer ≡ pick (c .control .mode .slpak) (Refused 2) (Value 0)
+  unfolding carry decide refusal readRefusal firstOf refuses1 refuses2 act readReply shows pick
+  zero-read z =
+      ap (λ (o : Outcome). o .answer) (step-plain c (read a))
+      ∙ by-test (c .control .mode .slpak) (λ t. simp (in-map, not-mcr, t)) (λ t. simp (in-map, not-mcr, t) (region-reads c a n k (regionOf (registerAt a)) _ shown z))
