@@ -245,7 +245,8 @@ static inline uint32_t hevrukan_slot(struct hevrukan *c, uint32_t identifier, ui
 }
 
 // A frame on the bus: identifier, length byte, data. verdict says whether its checksum and form were good. stored, queued,
-// heldoff, overrun, unmatched, badframe, ignored, woke, or refused (11). A null frame is one of no bytes.
+// heldoff, overrun, unmatched, badframe, ignored, woke, or refused (11). Of what its buffer held before, a stored or queued
+// frame leaves nothing: the data registers behind its last byte read 0. A null frame is one of no bytes.
 static inline uint32_t hevrukan_frame(struct hevrukan *c, uint32_t verdict, const uint8_t *frame, size_t frame_size) {
     const uint8_t no_frame[1] = {0};
     uint8_t no_room[1] = {0};

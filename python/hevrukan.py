@@ -226,7 +226,8 @@ class Controller:
     def frame(self, data, good=True):
         """A frame on the bus, as bytes: identifier, length byte, data; good is the verdict on its checksum and form.
 
-        stored, queued, heldoff, overrun, unmatched, badframe, ignored or woke. Refused 11.
+        stored, queued, heldoff, overrun, unmatched, badframe, ignored or woke. Refused 11. Of what its buffer held before,
+        a stored or queued frame leaves nothing: the data registers behind its last byte read 0.
         """
         if isinstance(data, int):
             raise TypeError("a frame is bytes, not a number")

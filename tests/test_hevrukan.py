@@ -129,6 +129,11 @@ class Edges(unittest.TestCase):
             self.assertEqual(running().frame(data), Answer("stored", 3))
         self.assertEqual(running().frame(b"\x21\x0f" + bytes(12)), ("stored", 3))
         self.assertEqual(running().frame(b"\x21\x00", good=False), ("badframe", None))
+        c = running()
+        self.assertEqual(c.frame(b"\x21\x0c" + b"\xee" * 12), ("stored", 3))
+        self.assertEqual(c.frame(b"\x21\x01\xaa"), ("stored", 3))
+        c.write(BFBUFCTL(3), LOCK)
+        self.assertEqual([c.read(BFRDATA(n)) for n in range(12)], [0xAA] + 11 * [0])
         # no receive buffer carries $22, and the filters are as after reset
         self.assertEqual(running().frame(b"\x22\x00"), ("queued", 0))
         no_fifo = Controller()

@@ -498,7 +498,7 @@ def frame():
     start3=(ctx,LT,{**val,6:"y6",4:Rul.val("r")},held); w.ctx=list(ctx)
     passed(changer,"(to-changer r)","(args-changer r)","(asked-changer r r-is)",lambda:[w.load(4),w.load(3)],"Change","x",Cha.row(),"x ≡ frameChange r f","d")
     w.emit(Cha.peeks("x","(v ∷ [])")+"(λ is. drop ! $ split ! $\n"); w.give(2,["t-f","true"]); changes(w,LT,ctx,5,"carrying x (change-is x _ is) (ap (changed h) d ∙ e)")
-    lemma("-- what the ruling changes",f"changing",us([6])+f"(r : Ruling) → {Rul.is_('r')} → changed h (frameChange r f) ≡ {GOAL} → ","changing r r-is e",piece(3),RET,start3,w.text())
+    lemma("-- what the ruling changes","changing",us([6])+f"(r : Ruling) → {Rul.is_('r')} → changed h (frameChange r f) ≡ {GOAL} → ","changing r r-is e",piece(3),RET,start3,w.text())
     lemma("-- the record is copied out, and the frame's ruling is had","ruling","","ruling",piece(1),RET,start,first)
     # ---- what is asked, and what is had at exit
     w=Walk(6); w.ctx=list(end); w.emit("nothing ! $ "); w.give(0,["t"]); w.to(["t-f","t"]); w.emit("join ! $ "); w.give(2,["t"]); w.to(["tok","t"]); w.emit("join ! $ frame ! $\n"); w.give(2,[])
@@ -506,7 +506,7 @@ def frame():
     def asks(owns):
         w=Walk(6); w.ctx=["t-f","f"]; w.emit("nothing ! $ "); w.give(0,["t"]); w.to(["t-f","t"]); w.emit("join ! $ nothing ! $ "); w.give(2,["X","t"]); w.to(["f","X"]); w.emit("fjoin ! $ "+owns+CLOSE); return w.text()
     GL="(κ, (κ-f, tt))"; GQ="(q, (q-f, tt))"; bound=f"(({GL}, {GQ}, tt, a, at), tt)"; held2=f"({TF} ∷ ‵ Bytes ∷ [])"; nl=chr(10)
-    put(f"""-- `in_place::frame` meets its contract: a walk of its MIR. The borrow is opened for a copy of the record, from which the ruling is had; what it changes, which is of the frame alone, is carried out by `carry`, to which the
+    put(f"""-- `in_place::frame` meets its contract: a walk of its MIR. The borrow is opened for a copy of the record, from which the ruling is had; the change, had from the ruling and the frame, is carried out by `carry`, to which the
 -- reference goes on at its own lifetime. All that the proof knows of the functions called is that they meet their contracts. Written by tools/gen_in_place.py.
 {HEAD}
 use Rattle.rules.specs.Steps.{{frame as frameStep}}

@@ -19,10 +19,10 @@ pub const CASES: [(&str, Test); 54] = [
     ("queued with a length byte above 12", |t| {
         queues(t) && length_byte(t) > 12
     }),
-    ("stored over a longer message", |t| {
+    ("stored where bytes stood behind it", |t| {
         matches!(t.answer, Answer::Stored(buffer) if has_bytes_behind(t, buffer))
     }),
-    ("queued over a longer message", |t| {
+    ("queued where bytes stood behind it", |t| {
         matches!(t.answer, Answer::Queued(place) if has_bytes_behind(t, place))
     }),
     ("queued with acceptance mask $FF", |t| {

@@ -2,21 +2,19 @@
 use mathlib.Core.Path.{_≡_, refl, ap, _∙_}
 use Prim.Native.Nat.{ℕ, _<_}
 use mathlib.Core.Bool.{Bool, true, false, _&&_, not}
-use mathlib.Core.List.{List, []}
-use lib.Dec.{ltb}
+use mathlib.Core.List.{List}
 use Rattle.masks.specs.Pick.{pick}
-use Rattle.masks.specs.PickLaws.{pick-false, pick-keeps}
+use Rattle.masks.specs.PickLaws.{pick-false}
 use Rattle.masks.specs.Bits.{bitOf, maskOf}
 use Rattle.masks.specs.Laws.{bit-mask, same-mask}
 use Rattle.contents.specs.Bytes.{Head}
 use Rattle.rules.specs.declared.SyncKind.{SyncKind}
-use Rattle.rules.specs.declared.Answer.{Answer}
-use Rattle.rules.specs.declared.Answer.the-variants.{Ignored, NotSent}
+use Rattle.rules.specs.declared.Answer.the-variants.{Ignored}
 use Rattle.rules.specs.declared.Control.{Control}
-use Rattle.rules.specs.Plan.{send, Plan, plain}
-use Rattle.rules.specs.Rules.{onBus, sleepsOn}
+use Rattle.rules.specs.Plan.{Plan, plain}
+use Rattle.rules.specs.Rules.{onBus}
 use Rattle.rules.specs.Kinds.{isFullTransmit, isLocked}
-use Rattle.rules.specs.Bus.{arms, synced, dueKind, dueSync, sendFrom, slotFor}
+use Rattle.rules.specs.Bus.{arms, synced, dueKind, dueSync}
 use Rattle.bus_steps.specs.Code.{isNamed, isReady, armsOf, syncedOf, dueOf}
 
 -- ---- the full transmit buffers with an identifier, as a mask
@@ -44,17 +42,3 @@ due-ready c hs m e = simp (synced-ready (dueKind c) c hs m e)
 pub bus-awake : (c : Control) (p q : Plan) → c .mode .init ≡ false → c .mode .slpak ≡ false → onBus c p q ≡ q
 unfolding onBus
 bus-awake c p q i s = pick-false (c .mode .init) (plain c Ignored) (pick (c .mode .slpak) p q) i ∙ pick-false (c .mode .slpak) p q s
-
--- ---- a slot's plan answers, or sends a buffer's frame
-
-pub data SlotPlan : Plan → Type 0 where
-  says : (c : Control) (a : Answer) → SlotPlan (plain c a)
-  sends : (c : Control) (n : ℕ) → SlotPlan (record { control = c; moves = []; reply = send n })
-
-pub slot-plan : (c : Control) (i n : ℕ) → SlotPlan (sleepsOn c (slotFor c i n))
-unfolding onBus slotFor sendFrom
-slot-plan c i n =
-    pick-keeps SlotPlan (c .mode .init) (λ t. says c Ignored)
-    (λ t. pick-keeps SlotPlan (c .mode .slpak) (λ u. says c Ignored)
-    (λ u. pick-keeps SlotPlan (not (c .mode .synced)) (λ x. says c Ignored)
-    (λ x. pick-keeps SlotPlan (ltb (c .mode .last) i && ltb n 16) (λ y. sends _ n) (λ y. says c NotSent))))

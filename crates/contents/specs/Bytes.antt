@@ -50,8 +50,7 @@ taken l d = min (cut l) (length d)
 unfoldable pub storeFrame : ℕ → ℕ → List ℕ → Contents
 storeFrame i l d = record { bytes = i ∷ (cut l ∷ (take (taken l d) d ++ replicate (12 - taken l d) 0)) }
 
--- What a buffer holds once the frame f is stored in it, of the frame alone: identifier, length byte, and "one slice whose data part
--- begins at byte 2"
+-- what a buffer holds once the frame f is stored in it, a function of f alone; f is "one slice whose data part begins at byte 2"
 abbrev pub imageOf : List ℕ → Contents
 imageOf f = storeFrame (getD f 0 0) (getD f 1 0) (drop 2 f)
 

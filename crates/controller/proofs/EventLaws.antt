@@ -16,17 +16,17 @@ use Rattle.rules.specs.Refusals.{refuses11}
 use Rattle.rules.specs.Steps.{slot}
 use Rattle.rules.specs.Plan.{Plan}
 use Rattle.bus_steps.specs.Code.{rulingOf}
-use Rattle.bus_steps.specs.CodeLaws.{SlotPlan, says, sends}
+use Rattle.rules.specs.BusPlanLaws.{SlotPlan, says, sends, slot-plan}
 use Rattle.rules.specs.declared.Answer.the-variants.{Sent}
 use Rattle.rules.specs.declared.Ruling.{Ruling}
 use Rattle.rules.specs.declared.Verdict.{Verdict}
 use Rattle.rules.specs.declared.Verdict.the-variants.{Say, Store, Send}
 use Rattle.controller.specs.declared.Controller.{Controller}
-use Rattle.controller.specs.Carry.{rowAt, moveAll, carry}
+use Rattle.controller.specs.Carry.{heads, rowAt, moveAll, carry}
 use Rattle.controller.specs.Session.{stepOf}
 use Rattle.controller.specs.Calls.{doneOf}
 use Rattle.controller.specs.Code.{answered, changed, slotRuling, rowIndex, bytesAt, rowBytes, slotChange, roomBy, roomSent}
-use Rattle.controller.specs.CodeLaws.{row-own, says-only, by-plan, slotPlan, slot-plain, slot-sized, slot-refused, slot-room}
+use Rattle.controller.specs.CodeLaws.{row-own, says-only, by-plan, slotPlan, slot-sized, slot-refused, slot-room}
 
 -- ---- a frame's size
 
@@ -108,5 +108,5 @@ module _ (c : Controller) (sixteen : length (c .rows) ≡ 16) (i : ℕ) (room : 
   slot-changes r e row same =
       let told = e ∙ slot-sized c i room in
       ap (λ (x : Ruling). changed c (slotChange x row)) told
-      ∙ slot-answers row (slotPlan c i room) (slot-plain c i room) (same ∙ ap (λ (x : Ruling). rowAt (c .rows) (rowIndex (x .verdict))) told)
+      ∙ slot-answers row (slotPlan c i room) (slot-plan (c .control) (heads (c .rows)) i room) (same ∙ ap (λ (x : Ruling). rowAt (c .rows) (rowIndex (x .verdict))) told)
       ∙ sym (by-plan c (slot i room) _ refl)

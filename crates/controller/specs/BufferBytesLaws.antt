@@ -1,10 +1,10 @@
 -- A buffer's bytes from step to step, and what a register reads that shows one.
 use mathlib.Core.Path.{_≡_, refl, sym, ap, ap₂, _∙_}
-use Prim.Native.Nat.{ℕ, zero, suc, _+_, _-_, _≤_}
+use Prim.Native.Nat.{ℕ, zero, suc, _+_, _-_, _≤_, _<_}
 use mathlib.Core.Bool.{Bool, true, false, _&&_, not, and-eq-true-iff, false≢true}
 use mathlib.Core.List.{List, [], _∷_}
 use native.Mathlib.Omega.{arith}
-use borrow.Author.Tests.{eqb-true, eqb-false, eq-eqb, ne-eqb, le-ltb, ltb-true, ltb-false, not-true}
+use borrow.Author.Tests.{eqb-true, eqb-false, eq-eqb, ne-eqb, lt-ltb, le-ltb, ltb-true, ltb-false, not-true}
 use lib.ListN.{getD, set, length, List·getD-eq-default}
 use lib.Seq.{set-out, getD-set-same, getD-set-other}
 use lib.Dec.{eqb, ltb}
@@ -14,9 +14,10 @@ use Rattle.contents.specs.declared.Contents.{Contents}
 use Rattle.contents.specs.Bytes.{Head, noContents, cut, imageOf}
 use Rattle.contents.specs.BytesLaws.{image-behind, ident-other, length-other, data-other}
 use Rattle.rules.specs.declared.Register.{Register}
-use Rattle.rules.specs.declared.Register.the-variants.{Reserved}
+use Rattle.rules.specs.declared.Register.the-variants.{TransmitWindow, ReceiveWindow, FifoWindow, Reserved}
 use Rattle.rules.specs.declared.Answer.{Answer}
 use Rattle.rules.specs.declared.Answer.the-variants.{Value, Refused}
+use Rattle.rules.specs.declared.Control.{Control}
 use Rattle.rules.specs.Registers.{Region, sendPlace, receivePlace, fifoPlace, elsewhere, regionOf, registerAt, lowMap}
 use Rattle.rules.specs.Kinds.{fifoHolder}
 use Rattle.rules.specs.Refusals.{refusal, readRefusal, writeRefusal, firstOf, refuses1, refuses2, refuses11}
@@ -26,8 +27,7 @@ use Rattle.rules.specs.Answers.{isPut, isPutIn, numberIn, givenOf}
 use Rattle.rules.specs.Steps.{Step, reset, read, write, sync, syncDue, slot, frame, fault, timeout, dataRegister}
 use Rattle.rules.specs.Plan.{Plan}
 use Rattle.rules.specs.Rules.{act, decide}
-use Rattle.rules.specs.StoringLaws.{FramePlan, drops, puts, frame-plan}
-use Rattle.bus_steps.specs.CodeLaws.{SlotPlan, says, sends}
+use Rattle.rules.specs.BusPlanLaws.{FramePlan, drops, puts, frame-plan, SlotPlan, says, sends, slot-plan}
 use Rattle.controller.specs.declared.Controller.{Controller}
 use Rattle.controller.specs.declared.Done.{Done}
 use Rattle.controller.specs.Carry.{heads, rowAt, moveAll, answerOf, Outcome, carry}
@@ -35,7 +35,7 @@ use Rattle.controller.specs.Session.{stepOf, endBy, endOf}
 use Rattle.controller.specs.Calls.{doneOf}
 use Rattle.controller.specs.BufferBytes.{byteAt, isPlaceOf, shows, mayChange, spares}
 use Rattle.controller.specs.Code.{changed, eventChange, writePlace}
-use Rattle.controller.specs.CodeLaws.{step-plain, placed-none, sync-changes, sync-due-changes, fault-changes, timeout-changes, slotPlan, slot-plain}
+use Rattle.controller.specs.CodeLaws.{step-plain, placed-none, sync-changes, sync-due-changes, fault-changes, timeout-changes, slotPlan}
 use Rattle.controller.specs.AccessLaws.{window-moves, write-accepted, write-refused}
 use Rattle.controller.specs.ViewLaws.{head-at}
 use Rattle.controller.specs.Unchanged.{read-unchanged}
@@ -166,7 +166,7 @@ module _ (c : Controller) (n k : ℕ) where
       ap (λ (d : Done). byteAt (d .next) n k) (sym same)
       ∙ ap (λ (rows : List Contents). getD (rowAt rows n .bytes) k 0) (placed-none (c .rows) 16 _ (omega arith))
 
-  pub step-keeps : (e : Step) → mayChange c n k e ≡ false → byteAt (stepOf c e .next) n k ≡ byteAt c n k
+  step-keeps : (e : Step) → mayChange c n k e ≡ false → byteAt (stepOf c e .next) n k ≡ byteAt c n k
   unfolding mayChange
   step-keeps reset x = absurd (false≢true (sym x))
   step-keeps (read a) x = ap (λ (d : Controller). byteAt d n k) (read-unchanged c a)
@@ -175,7 +175,7 @@ module _ (c : Controller) (n k : ℕ) where
   step-keeps syncDue x = event-keeps syncDue (sync-due-changes c)
   step-keeps (slot i room) x =
       ap (λ (o : Outcome). byteAt (o .next) n k) (step-plain c (slot i room))
-      ∙ ap (λ (rows : List Contents). getD (rowAt rows n .bytes) k 0) (slot-rows (slot i room) (c .rows) (slotPlan c i room) (slot-plain c i room))
+      ∙ ap (λ (rows : List Contents). getD (rowAt rows n .bytes) k 0) (slot-rows (slot i room) (c .rows) (slotPlan c i room) (slot-plan (c .control) (heads (c .rows)) i room))
   step-keeps (frame good f) x =
       let same = step-plain c (frame good f) in
       ap (λ (o : Outcome). byteAt (o .next) n k) same
@@ -192,6 +192,42 @@ session-keeps c n k (e ∷ es) x =
     session-keeps (stepOf c e .next) n k es (both .1) ∙ step-keeps c n k e (not-true (mayChange c n k e) (both .0))
 
 -- ---- a read
+
+-- the map of the windows
+
+module _ (p : ℕ) (h : p < 14) where
+  transmit-at : registerAt (0x20 + p) ≡ TransmitWindow p
+  unfolding registerAt pick
+  transmit-at = let back : 0x20 + p - 0x20 ≡ p = omega arith in simp (le-ltb (0x20 + p) 0x20 (omega arith), lt-ltb (0x20 + p) 0x30 (omega arith), back, lt-ltb p 14 h)
+
+  receive-at : registerAt (0x30 + p) ≡ ReceiveWindow p
+  unfolding registerAt pick
+  receive-at =
+      let back : 0x30 + p - 0x30 ≡ p = omega arith in
+      simp (le-ltb (0x30 + p) 0x20 (omega arith), le-ltb (0x30 + p) 0x30 (omega arith), lt-ltb (0x30 + p) 0x40 (omega arith), back, lt-ltb p 14 h)
+
+  fifo-at : registerAt (0x40 + p) ≡ FifoWindow p
+  unfolding registerAt pick
+  fifo-at =
+      let back : 0x40 + p - 0x40 ≡ p = omega arith in
+      simp (le-ltb (0x40 + p) 0x20 (omega arith), le-ltb (0x40 + p) 0x30 (omega arith), le-ltb (0x40 + p) 0x40 (omega arith), lt-ltb (0x40 + p) 0x50 (omega arith), back, lt-ltb p 14 h)
+
+own-place : (n p : ℕ) → (eqb n n && eqb p p) ≡ true
+own-place n p = simp (eq-eqb n n refl, eq-eqb p p refl)
+
+module _ (c : Control) (p : ℕ) (h : p < 14) where
+  shown-as : (n a : ℕ) {r : Register} → registerAt a ≡ r → isPlaceOf c n p (regionOf r) ≡ true → shows c n p a ≡ true
+  unfolding shows
+  shown-as n a e t = ap (λ (r : Register). isPlaceOf c n p (regionOf r)) e ∙ t
+
+  pub transmit-shows : shows c (c .transmit .holder) p (0x20 + p) ≡ true
+  transmit-shows = shown-as (c .transmit .holder) (0x20 + p) (transmit-at p h) (own-place (c .transmit .holder) p)
+
+  pub receive-shows : shows c (c .receive .holder) p (0x30 + p) ≡ true
+  receive-shows = shown-as (c .receive .holder) (0x30 + p) (receive-at p h) (own-place (c .receive .holder) p)
+
+  pub fifo-shows : shows c (fifoHolder c) p (0x40 + p) ≡ true
+  fifo-shows = shown-as (fifoHolder c) (0x40 + p) (fifo-at p h) (own-place (fifoHolder c) p)
 
 -- no register past the last address is in a window
 past-map : (a : ℕ) → 0x60 ≤ a → registerAt a ≡ Reserved

@@ -81,17 +81,17 @@ saidChange c r = saying (keptFrom c (r .next)) (saidBy (r .verdict))
 abbrev pub eventChange : Controller → Step → Change
 eventChange c e = saidChange (c .control) (rulingFor c e)
 
--- ---- a frame's ruling as a change, the frame being f: no buffer's row is looked at, and nothing is ever sent
+-- ---- a frame's ruling as a change, the frame being f: it asks for no buffer's row, and it never sends
 
 abbrev pub frameChangeBy : Control → List ℕ → Verdict → Change
 frameChangeBy d f (Say a) = saying d a
-frameChangeBy d f (Store n a) = putting d n (imageOf f .bytes) a
+frameChangeBy d f (Store n a) = placing d n (imageOf f .bytes) a
 frameChangeBy d f (Send n) = saying d Ok
 
 unfoldable pub frameChange : Ruling → List ℕ → Change
 frameChange r f = frameChangeBy (r .next) f (r .verdict)
 
--- ---- a slot's ruling as a change, from the row of its buffer: nothing is ever stored
+-- ---- a slot's ruling as a change, from the row of its buffer: it never stores
 
 -- index of the row of the buffer that is sent; any row where none is
 abbrev pub rowIndex : Verdict → ℕ

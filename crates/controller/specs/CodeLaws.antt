@@ -30,15 +30,15 @@ use Rattle.rules.specs.Modes.{wake}
 use Rattle.rules.specs.Bus.{woken, dueKind, lookup, offers, judged, received, slotFor, slotted, synced, dueSync, timedOut, faulted}
 use Rattle.rules.specs.Rules.{onBus, wakes, sleepsOn, act, decide}
 use Rattle.rules.specs.Hidden.{decide-hide}
-use Rattle.rules.specs.StoringLaws.{FramePlan, drops, puts, frame-plan}
+use Rattle.rules.specs.BusPlanLaws.{FramePlan, drops, puts, frame-plan, SlotPlan, says, sends, slot-plan}
 use Rattle.bus_steps.specs.Code.{rulingOf, isReady, syncedOf, dueOf}
-use Rattle.bus_steps.specs.CodeLaws.{SlotPlan, says, sends, synced-ready, due-ready, slot-plan}
+use Rattle.bus_steps.specs.CodeLaws.{synced-ready, due-ready}
 use Rattle.controller.specs.declared.Controller.{Controller}
 use Rattle.controller.specs.declared.Done.{Done}
 use Rattle.controller.specs.Carry.{heads, rowAt, moveAll, Outcome, carry, resetState}
 use Rattle.controller.specs.Session.{stepOf}
 use Rattle.controller.specs.Calls.{doneOf}
-use Rattle.controller.specs.Code.{answered, saying, putting, placed, changed, rulingFor, slotRuling, keptFrom, saidChange, eventChange, frameChange, rowIndex, roomBy}
+use Rattle.controller.specs.Code.{answered, saying, placing, putting, placed, changed, rulingFor, slotRuling, keptFrom, saidChange, eventChange, frameChange, rowIndex, roomBy}
 
 -- the rules are given the step itself
 pub step-plain : (c : Controller) (e : Step) → stepOf c e ≡ carry e (c .rows) (decide (c .control) (heads (c .rows)) e)
@@ -71,6 +71,12 @@ module _ (c : Controller) (d : Control) (a : Answer) where
   pub says-only : changed c (saying d a) ≡ given (c .rows)
   says-only = ap given (placed-none (c .rows) 16 (replicate 14 0) (omega arith))
 
+  -- buffer n becomes b
+  pub places-row : (n : ℕ) (b : Contents) → length (c .rows) ≡ 16 → changed c (placing d n (b .bytes) a) ≡ given (set (c .rows) n b)
+  places-row n b sixteen =
+      by-test (ltb n 16) (λ t. ap given (placed-one (c .rows) n (b .bytes) (ltb-true n 16 t)))
+      (λ t. let past = ltb-false n 16 t in ap given (placed-none (c .rows) n (b .bytes) past ∙ sym (set-out (c .rows) n b (omega arith))))
+
   -- buffer n becomes what w makes of it, which is had from the row to look at
   pub puts-row : (w : Contents → Contents) (n : ℕ) (row : Contents) → length (c .rows) ≡ 16 → row ≡ rowAt (c .rows) (n % 16) →
       changed c (putting d n (w row .bytes) a) ≡ given (set (c .rows) n (w (rowAt (c .rows) n)))
@@ -79,7 +85,7 @@ module _ (c : Controller) (d : Control) (a : Answer) where
       inside : ltb n 16 ≡ true → changed c (putting d n (w row .bytes) a) ≡ given (set (c .rows) n (w (rowAt (c .rows) n)))
       inside t =
           ap (changed c) (pick-true (ltb n 16) _ _ t)
-          ∙ ap given (placed-one (c .rows) n (w row .bytes) (ltb-true n 16 t))
+          ∙ places-row n (w row) sixteen
           ∙ ap (λ (b : Contents). given (set (c .rows) n (w b))) (row-own (c .rows) n row (ltb-true n 16 t) e)
 
       outside : ltb n 16 ≡ false → changed c (putting d n (w row .bytes) a) ≡ given (set (c .rows) n (w (rowAt (c .rows) n)))
@@ -161,7 +167,7 @@ frame-stores : (c : Controller) → length (c .rows) ≡ 16 → (good : Bool) (f
     changed c (frameChange (rulingOf p) f) ≡ doneOf (carry (frame good f) (c .rows) p)
 unfolding carry moveAll frameChange
 frame-stores c sixteen good f p (drops d a q) = says-only c d a
-frame-stores c sixteen good f p (puts d n a q) = puts-row c d a (λ (b : Contents). imageOf f) n (rowAt (c .rows) (n % 16)) sixteen refl
+frame-stores c sixteen good f p (puts d n a q) = places-row c d a n (imageOf f) sixteen
 
 -- ---- what the events change
 
@@ -198,10 +204,6 @@ module _ (c : Controller) where
   abbrev pub slotPlan : ℕ → List ℕ → Plan
   slotPlan i room = decide (c .control) (heads (c .rows)) (slot i room)
 
-  pub slot-plain : (i : ℕ) (room : List ℕ) → SlotPlan (slotPlan i room)
-  unfolding decide refusal act slotted
-  slot-plain i room = pick-keeps SlotPlan _ (λ t. slot-plan (c .control) i _) (λ t. says (c .control) _)
-
   pub slot-sized : (i : ℕ) (room : List ℕ) → slotRuling c i (length room) ≡ rulingOf (slotPlan i room)
   unfolding rulingFor decide refusal act refuses12
   slot-sized i room = simp length-replicate
@@ -214,7 +216,7 @@ module _ (c : Controller) where
   pub slot-room : (i : ℕ) (room : List ℕ) → roomBy (c .rows) room (slotRuling c i (length room) .verdict) ≡ stepOf c (slot i room) .room
   slot-room i room =
       ap (λ (r : Ruling). roomBy (c .rows) room (r .verdict)) (slot-sized i room)
-      ∙ sym (ap (λ (o : Outcome). o .room) (step-plain c (slot i room)) ∙ slot-fills i room (slotPlan i room) (slot-plain i room))
+      ∙ sym (ap (λ (o : Outcome). o .room) (step-plain c (slot i room)) ∙ slot-fills i room (slotPlan i room) (slot-plan (c .control) (heads (c .rows)) i room))
 
   -- the rulings as the code has them: m the full transmit buffers with an identifier, n the buffer that was looked up
   pub sync-ruling : (k : SyncKind) (m : ℕ) → m ≡ maskOf (isReady (c .control) (heads (c .rows))) →

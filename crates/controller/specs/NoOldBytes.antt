@@ -1,21 +1,25 @@
 -- W4, no old bytes behind a short message, from any state: what a buffer holds once a frame is put in it, how long each of its bytes
 -- stays, and what the registers read that show those behind the frame.
 use mathlib.Core.Path.{_≡_, _∙_}
-use Prim.Native.Nat.{ℕ, _+_, _≤_}
+use Prim.Native.Nat.{ℕ, _+_, _≤_, _<_}
 use mathlib.Core.Bool.{Bool, true}
 use mathlib.Core.List.{List}
+use native.Mathlib.Omega.{arith}
 use lib.ListN.{getD, set, length}
 use Rattle.masks.specs.Pick.{pick}
 use Rattle.contents.specs.Bytes.{cut, imageOf}
 use Rattle.rules.specs.declared.Answer.the-variants.{Value, Refused}
+use Rattle.rules.specs.declared.Control.{Control}
+use Rattle.rules.specs.Kinds.{fifoHolder}
 use Rattle.rules.specs.Answers.{isPutIn}
 use Rattle.rules.specs.Steps.{Step, read, frame}
 use Rattle.controller.specs.declared.Controller.{Controller}
 use Rattle.controller.specs.Session.{stepOf, endOf}
 use Rattle.controller.specs.BufferBytes.{byteAt, shows, spares}
-use Rattle.controller.specs.BufferBytesLaws.{put-rows, put-size, session-keeps, zero-at, zero-read}
+use Rattle.controller.specs.BufferBytesLaws.{put-rows, put-size, session-keeps, transmit-shows, receive-shows, fifo-shows, zero-at, zero-read}
 
--- "stored n" or "queued n": buffer n holds the frame's image, whatever it held before, and no other buffer changes
+-- "stored n" or "queued n": buffer n holds the frame's image, whatever it held before, and no other buffer changes. (A record made by
+-- hand may name a place past the last buffer; then none changes.)
 pub put-image : (c : Controller) (good : Bool) (f : List ℕ) (n : ℕ) → isPutIn n (stepOf c (frame good f) .answer) ≡ true →
     stepOf c (frame good f) .next .rows ≡ set (c .rows) n (imageOf f)
 put-image c good f n put = put-rows c good f n put
@@ -28,16 +32,28 @@ put-sized c good f n put = put-size c good f n put
 pub byte-stays : (c : Controller) (n k : ℕ) (es : List Step) → spares c n k es ≡ true → byteAt (endOf c es) n k ≡ byteAt c n k
 byte-stays c n k es s = session-keeps c n k es s
 
--- The frame f, put in buffer n by the record c, and any steps after it. With L data bytes f is 2 + L long, and a byte k behind it is
--- one of 2 + L to 13.
-module _ (c : Controller) (good : Bool) (f : List ℕ) (n : ℕ) (put : isPutIn n (stepOf c (frame good f) .answer) ≡ true) (k : ℕ) (behind : length f ≤ k) (es : List Step) (spared : spares (stepOf c (frame good f) .next) n k es ≡ true) where
-  abbrev later : Controller
-  later = endOf (stepOf c (frame good f) .next) es
+-- the fourteen registers of each window show its holder's bytes
+pub window-shows : (c : Control) (p : ℕ) → p < 14 →
+    (shows c (c .transmit .holder) p (0x20 + p) ≡ true) × (shows c (c .receive .holder) p (0x30 + p) ≡ true) × (shows c (fifoHolder c) p (0x40 + p) ≡ true)
+window-shows c p h = (transmit-shows c p h, receive-shows c p h, fifo-shows c p h)
 
-  -- it is 0, and stays so "until a window write to" it, "the next frame stored in n, or reset"
-  pub zeros-behind : byteAt later n k ≡ 0
-  zeros-behind = byte-stays (stepOf c (frame good f) .next) n k es spared ∙ zero-at c good f n k put behind
+module _ (c : Controller) (good : Bool) (f : List ℕ) (n : ℕ) (put : isPutIn n (stepOf c (frame good f) .answer) ≡ true) where
+  -- the record once the frame f is put in buffer n
+  abbrev after : Controller
+  after = stepOf c (frame good f) .next
 
-  -- so a register that shows it reads 0, or is refused 2 asleep
-  pub zeros-read : (a : ℕ) → shows (later .control) n k a ≡ true → stepOf later (read a) .answer ≡ pick (later .control .mode .slpak) (Refused 2) (Value 0)
-  zeros-read a shown = zero-read later n k a shown zeros-behind
+  -- byte k of the buffer, behind the L data bytes: one of 2 + L to 13 (from 14 on there is none); and any steps of which none may
+  -- change it
+  module _ (k : ℕ) (behind : 2 + cut (getD f 1 0) ≤ k) (es : List Step) (spared : spares after n k es ≡ true) where
+    abbrev later : Controller
+    later = endOf after es
+
+    -- it is 0, and stays so until a write to a register that shows it, the next frame that is put in n, or reset
+    pub zeros-behind : byteAt later n k ≡ 0
+    zeros-behind =
+        let size = put-sized c good f n put in
+        byte-stays after n k es spared ∙ zero-at c good f n k put (omega arith)
+
+    -- so a register that shows it reads 0, or is refused 2 asleep
+    pub zeros-read : (a : ℕ) → shows (later .control) n k a ≡ true → stepOf later (read a) .answer ≡ pick (later .control .mode .slpak) (Refused 2) (Value 0)
+    zeros-read a shown = zero-read later n k a shown zeros-behind

@@ -3,14 +3,13 @@ ghost use mathlib.Core.Path.{_≡_};
 ghost use Prim.Native.Nat.{_%_};
 ghost use mathlib.Core.List.{List};
 ghost use Rattle.contents.specs.declared.Contents.{Contents};
-ghost use Rattle.contents.specs.Bytes.{imageOf};
 ghost use Rattle.rules.specs.Bus.{lookup, offers};
 ghost use Rattle.masks.specs.Bits.{highest, maskOf};
 ghost use Rattle.bus_steps.specs.Code.{isReady};
 ghost use Rattle.rules.specs.Steps.Step.{sync, syncDue, frame, fault, timeout};
 ghost use Rattle.controller.specs.declared.Controller.{Controller};
 ghost use Rattle.controller.specs.Carry.{heads, rowAt};
-ghost use Rattle.controller.specs.Code.{putting, rulingFor, slotRuling, keptFrom, saidChange, eventChange, frameChange, rowIndex, bytesAt, slotAnswer, slotChange, roomSent};
+ghost use Rattle.controller.specs.Code.{rulingFor, slotRuling, keptFrom, saidChange, eventChange, frameChange, rowIndex, bytesAt, slotAnswer, slotChange, roomSent};
 use crate::Change;
 use crate::Controller;
 use crate::changes::with_answer;
@@ -39,16 +38,6 @@ fn bytes_at(n: u8, row: Contents) -> [u8; 14]
         return [0u8; 14];
     }
     row.bytes
-}
-
-// The frame f stored in buffer n, with the control state c after it.
-fn stored(c: Control, n: u8, f: &[u8], a: Answer) -> Change
-    ensures { λ x. ⌜ x ≡ putting c n (imageOf (now (f .entry)) .bytes) a ⌝ }
-{
-    if NONE <= n {
-        return with_answer(c, a);
-    }
-    with_bytes(c, n, receiving::store_frame(f), a)
 }
 
 // The control state d with the configuration and the locks of c. No event of the bus changes these: taken from c, from before the
@@ -152,8 +141,9 @@ pub fn timeout(c: Controller) -> Change
     said(d, bus_steps::on_timeout(d))
 }
 
-// Frames and slots touch one buffer's bytes: first the ruling, which names the buffer, then the change. A frame's needs no row, for
-// what is stored is of the frame alone; a slot's needs the row that is sent. So a step in place reads no other.
+// Frames and slots touch one buffer's bytes: first the ruling, which names the buffer, then the change. A frame's change needs no row, for
+// what is stored depends on the frame alone; a slot's needs the row that is sent. So beside the identifiers a step in place reads no
+// other row.
 
 // The ruling on a frame: its verdict and its bytes.
 pub fn frame_ruling(c: Controller, good: bool, f: &[u8]) -> Ruling
@@ -170,7 +160,7 @@ pub fn frame_ruling(c: Controller, good: bool, f: &[u8]) -> Ruling
     bus_steps::on_frame(d, good, i, lookup(c, i))
 }
 
-// What a frame's ruling changes.
+// What a frame's ruling changes. It never sends.
 pub fn frame_change(r: Ruling, f: &[u8]) -> Change
     ensures { λ x. ⌜ x ≡ frameChange r (now (f .entry)) ⌝ }
 {
@@ -178,7 +168,7 @@ pub fn frame_change(r: Ruling, f: &[u8]) -> Change
     let verdict = r.verdict;
     match verdict {
         Verdict::Say(a) => with_answer(control, a),
-        Verdict::Store(n, a) => stored(control, n, f, a),
+        Verdict::Store(n, a) => with_bytes(control, n, receiving::store_frame(f), a),
         Verdict::Send(_) => with_answer(control, Answer::Ok),
     }
 }
@@ -197,7 +187,7 @@ pub fn slot_ruling(c: Controller, i: u8, size: usize) -> Ruling
     bus_steps::on_slot(d, i, offering(c, i))
 }
 
-// Index of the row of the buffer that a slot's ruling sends; any row where it sends none.
+// Index of the row of the buffer that a slot's ruling sends; any row where it sends none. It never stores.
 pub fn row_of(r: Ruling) -> usize
     ensures { λ i. ⌜ i ≡ rowIndex (r .verdict) ⌝ }
 {

@@ -34,16 +34,16 @@ blank-rows : RowBytes (replicate 16 blank)
 blank-rows = replicate-all (λ (x : Contents). Bytes (x .bytes)) noContents 16 blank (zero-bytes 14) no-bytes
 
 module _ (b : Contents) (p : Bytes (b .bytes)) where
-  rest-bytes : (k : ℕ) → Bytes (drop k (b .bytes))
-  rest-bytes k = drop-bytes k (b .bytes) p
+  rest-bytes : Bytes (drop 2 (b .bytes))
+  rest-bytes = drop-bytes 2 (b .bytes) p
 
   ident-bytes : (v : ℕ) → v < 256 → Bytes (withIdent b v .bytes)
   unfolding withIdent
-  ident-bytes v h = cons-bytes v (getD (b .bytes) 1 0 ∷ drop 2 (b .bytes)) h (cons-bytes _ (drop 2 (b .bytes)) (p 1) (rest-bytes 2))
+  ident-bytes v h = cons-bytes v (getD (b .bytes) 1 0 ∷ drop 2 (b .bytes)) h (cons-bytes _ (drop 2 (b .bytes)) (p 1) rest-bytes)
 
   length-bytes : (v : ℕ) → v < 256 → Bytes (withLength b v .bytes)
   unfolding withLength
-  length-bytes v h = cons-bytes _ (v ∷ drop 2 (b .bytes)) (p 0) (cons-bytes v (drop 2 (b .bytes)) h (rest-bytes 2))
+  length-bytes v h = cons-bytes _ (v ∷ drop 2 (b .bytes)) (p 0) (cons-bytes v (drop 2 (b .bytes)) h rest-bytes)
 
   data-bytes : (j v : ℕ) → v < 256 → Bytes (withData b j v .bytes)
   unfolding withData

@@ -27,7 +27,7 @@ fn carry(c: &mut Controller, x: Change) -> Answer
     x.answer
 }
 
-// The step of a frame: none of its bytes is copied but to a buffer, of which no byte is looked at.
+// The step of a frame: none of its bytes is copied but to a buffer, whose length and data of before are not read.
 fn frame(c: &mut Controller, good: bool, f: &[u8]) -> Answer
     ensures { λ r. ⌜ (now (c .exit) ≡ doneOf (stepOf (now (c .entry)) (frameStep good (now (f .entry)))) .next) × (r ≡ doneOf (stepOf (now (c .entry)) (frameStep good (now (f .entry)))) .answer) ⌝ }
 {

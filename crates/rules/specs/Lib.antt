@@ -22,4 +22,4 @@ pub mod HiddenLaws
 pub mod UnchangedLaws
 pub mod UntouchedLaws
 pub mod SendingLaws
-pub mod StoringLaws
+pub mod BusPlanLaws

@@ -1,4 +1,4 @@
--- `in_place::frame` meets its contract: a walk of its MIR. The borrow is opened for a copy of the record, from which the ruling is had; what it changes, which is of the frame alone, is carried out by `carry`, to which the
+-- `in_place::frame` meets its contract: a walk of its MIR. The borrow is opened for a copy of the record, from which the ruling is had; the change, had from the ruling and the frame, is carried out by `carry`, to which the
 -- reference goes on at its own lifetime. All that the proof knows of the functions called is that they meet their contracts. Written by tools/gen_in_place.py.
 -- Assumes nothing.
 use mathlib.Core.Path.{_≡_, refl, ap, _∙_, subst}

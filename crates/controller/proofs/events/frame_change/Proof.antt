@@ -1,5 +1,8 @@
+use mathlib.Core.Path.{ap, _∙_}
+use Prim.Native.Nat.{ℕ}
+use mathlib.Core.List.{List}
 use borrow.Author.Needs.{needs}
-use Rattle.controller.specs.Code.{frameChange}
+use Rattle.controller.specs.Code.{placing, frameChange}
 use Rattle.controller.proofs.events.frame_change.Statement.{statement}
 use Rattle.controller.proofs.events.frame_change.Tie as tie
 
@@ -12,8 +15,11 @@ with-answer-requires c κs = search needs
 enum-known-verdict-2 : tie.Need-enum-known-verdict-2
 enum-known-verdict-2 c = search needs
 
-stored-requires : tie.Need-stored-requires
-stored-requires c κs = search needs
+store-frame-requires : tie.Need-store-frame-requires
+store-frame-requires c κs = search needs
+
+with-bytes-requires : tie.Need-with-bytes-requires
+with-bytes-requires c κs = search needs
 
 enum-told : tie.Need-enum-told
 enum-told c = search needs
@@ -27,7 +33,10 @@ returns c = rw (c .before .before .verdict .given .1) (c .with-answer .ensures)
 
 returns-2 : tie.Need-returns-2
 unfolding frameChange
-returns-2 c = rw (c .before .before .verdict2 .given .1) (c .stored .ensures)
+returns-2 c =
+    let d = c .before .before .before .before .before .before .before .args .r .next in
+    let told = c .before .before .before .verdict2 .given in
+    rw (told .1) (c .with-bytes .ensures ∙ ap (λ (b : List ℕ). placing d (told .0 .0) b (told .0 .1 .0)) (c .before .store-frame .ensures))
 
 returns-3 : tie.Need-returns-3
 unfolding frameChange
@@ -40,7 +49,8 @@ frame-change-spec =
     enum-known-verdict
     with-answer-requires
     enum-known-verdict-2
-    stored-requires
+    store-frame-requires
+    with-bytes-requires
     enum-told
     with-answer-requires-2
     returns

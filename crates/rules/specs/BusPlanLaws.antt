@@ -1,23 +1,27 @@
--- A frame's plan stores it in the buffer that its answer names, or moves no byte.
+-- The plans of frames and slots: a frame's stores it in the buffer that its answer names, or moves no byte; a slot's answers, or sends
+-- a buffer's frame.
 use mathlib.Core.Path.{_≡_, refl}
 use Prim.Native.Nat.{ℕ}
-use mathlib.Core.Bool.{Bool, true, false, _||_, not}
+use mathlib.Core.Bool.{Bool, true, false, _&&_, _||_, not}
 use mathlib.Core.List.{List, [], _∷_}
 use borrow.Author.Tests.{eq-eqb}
 use lib.ListN.{getD}
 use lib.Dec.{eqb, ltb, leb}
 use Rattle.masks.specs.PickLaws.{pick-keeps}
+use Rattle.masks.specs.Bits.{highest}
 use Rattle.contents.specs.Bytes.{Head}
 use Rattle.rules.specs.declared.Answer.{Answer}
-use Rattle.rules.specs.declared.Answer.the-variants.{Stored, Queued, HeldOff, Refused, Overrun, Unmatched, BadFrame, Ignored, Woke}
+use Rattle.rules.specs.declared.Answer.the-variants.{Stored, Queued, HeldOff, Refused, Overrun, Unmatched, BadFrame, Ignored, Woke, NotSent}
 use Rattle.rules.specs.declared.Control.{Control}
 use Rattle.rules.specs.Kinds.{isLocked}
-use Rattle.rules.specs.Bus.{woken, lookup, toBuffer, fifoTakes, toFifo, raiseLast, found, judged, received}
+use Rattle.rules.specs.Bus.{woken, lookup, toBuffer, fifoTakes, toFifo, raiseLast, found, judged, received, offers, sendFrom, slotFor, slotted}
 use Rattle.rules.specs.Refusals.{refusal}
 use Rattle.rules.specs.Answers.{isPut, isPutIn}
-use Rattle.rules.specs.Steps.{frame}
-use Rattle.rules.specs.Plan.{store, say, Plan, plain}
+use Rattle.rules.specs.Steps.{slot, frame}
+use Rattle.rules.specs.Plan.{store, say, send, Plan, plain}
 use Rattle.rules.specs.Rules.{onBus, act, decide}
+
+-- ---- frames
 
 pub data FramePlan : Plan → Type 0 where
   drops : (c : Control) (a : Answer) → isPut a ≡ false → FramePlan (plain c a)
@@ -49,3 +53,19 @@ frame-plan c hs good f =
     (λ t. pick-keeps FramePlan (c .mode .init) (λ u. drops c Ignored refl)
     (λ u. pick-keeps FramePlan (c .mode .slpak) (λ x. drops (woken c) Woke refl) (λ x. judged-plan c good (getD f 0 0) (lookup c hs (getD f 0 0)))))
     (λ t. drops c (Refused (refusal c (frame good f))) refl)
+
+-- ---- slots
+
+pub data SlotPlan : Plan → Type 0 where
+  says : (c : Control) (a : Answer) → SlotPlan (plain c a)
+  sends : (c : Control) (n : ℕ) → SlotPlan (record { control = c; moves = []; reply = send n })
+
+pub slot-plan : (c : Control) (hs : List Head) (i : ℕ) (room : List ℕ) → SlotPlan (decide c hs (slot i room))
+unfolding decide act onBus slotted slotFor sendFrom
+slot-plan c hs i room =
+    pick-keeps SlotPlan (eqb (refusal c (slot i room)) 0)
+    (λ t. pick-keeps SlotPlan (c .mode .init) (λ u. says c Ignored)
+    (λ u. pick-keeps SlotPlan (c .mode .slpak) (λ x. says c Ignored)
+    (λ x. pick-keeps SlotPlan (not (c .mode .synced)) (λ y. says c Ignored)
+    (λ y. pick-keeps SlotPlan (ltb (c .mode .last) i && ltb (highest (offers c hs i) 16) 16) (λ z. sends _ _) (λ z. says c NotSent)))))
+    (λ t. says c (Refused (refusal c (slot i room))))
