@@ -737,12 +737,11 @@ impl Controller {
 
     /// Nothing of an older frame is left: data bytes past the stored length are 0.
     fn store(&mut self, buffer: u8, identifier: u8, data: &[u8]) {
-        let contents = &mut self.contents[buffer as usize];
+        let mut contents = [0; CONTENTS];
         contents[0] = identifier;
         contents[1] = data.len() as u8;
-        let (stored, behind) = contents[2..].split_at_mut(data.len());
-        stored.copy_from_slice(data);
-        behind.fill(0);
+        contents[2..2 + data.len()].copy_from_slice(data);
+        self.contents[buffer as usize] = contents;
     }
 
     fn slot(&mut self, slot: u8, room: &mut [u8]) -> Answer {

@@ -3,10 +3,10 @@ use mathlib.Core.Path.{_≡_, refl, ap, _∙_}
 use Prim.Native.Nat.{ℕ, zero, suc, _+_, _-_, _≤_}
 use mathlib.Core.List.{List, _++_}
 use native.Mathlib.Omega.{arith}
-use lib.ListN.{getD, take, drop, replicate, length, length-take, length-drop, List·getD-eq-default}
+use lib.ListN.{getD, take, drop, replicate, length, length-take, length-drop}
 use lib.Seq.{getD-set-other, getD-drop, getD-append-add}
 use Rattle.contents.specs.declared.Contents.{Contents}
-use Rattle.contents.specs.Bytes.{withIdent, withLength, withData, cut, taken, storeFrame, imageOf}
+use Rattle.contents.specs.Bytes.{withIdent, withLength, withData, taken, storeFrame, imageOf}
 
 -- ---- a frame stored
 
@@ -20,12 +20,12 @@ past-zeros xs m j h =
     let at : j ≡ length xs + (j - length xs) = omega arith in
     ap (λ (i : ℕ). getD (xs ++ replicate m 0) i 0) at ∙ getD-append-add xs (replicate m 0) (j - length xs) 0 ∙ zeros-at m (j - length xs)
 
--- the image of a frame, sized well or not, is 0 from the frame's end on
-pub image-behind : (f : List ℕ) (k : ℕ) → length f ≤ k → getD (imageOf f .bytes) k 0 ≡ 0
+-- the data bytes of a frame's image, sized well or not, are 0 from the frame's end on
+pub image-behind : (f : List ℕ) (k : ℕ) → 2 ≤ k → length f ≤ k → getD (imageOf f .bytes) k 0 ≡ 0
 unfolding storeFrame
-image-behind f zero h = List·getD-eq-default f 0 h
-image-behind f (suc zero) h = ap cut (List·getD-eq-default f 0 h)
-image-behind f (suc (suc j)) h =
+image-behind f zero d h = absurd (omega arith)
+image-behind f (suc zero) d h = absurd (omega arith)
+image-behind f (suc (suc j)) d h =
     let t = taken (getD f 1 0) (drop 2 f) in
     let size = length-take t (drop 2 f) in
     let rest = length-drop 2 f in

@@ -88,12 +88,12 @@ unput-plan rows good f n p (puts d m a q) x =
     getD-set-other rows m n (imageOf f) noContents (λ e. false≢true (sym x ∙ ap (λ (i : ℕ). isPutIn i a) e ∙ q))
 
 -- a buffer that a frame was put in, or none
-pub zero-at : (c : Controller) (good : Bool) (f : List ℕ) (n k : ℕ) → isPutIn n (stepOf c (frame good f) .answer) ≡ true → length f ≤ k →
+pub zero-at : (c : Controller) (good : Bool) (f : List ℕ) (n k : ℕ) → isPutIn n (stepOf c (frame good f) .answer) ≡ true → 2 ≤ k → length f ≤ k →
     byteAt (stepOf c (frame good f) .next) n k ≡ 0
-zero-at c good f n k put h =
+zero-at c good f n k put d h =
     ap (λ (rows : List Contents). getD (rowAt rows n .bytes) k 0) (put-rows c good f n put)
     ∙ by-test (ltb n (length (c .rows)))
-    (λ t. ap (λ (b : Contents). getD (b .bytes) k 0) (getD-set-same (c .rows) n (imageOf f) noContents (ltb-true n (length (c .rows)) t)) ∙ image-behind f k h)
+    (λ t. ap (λ (b : Contents). getD (b .bytes) k 0) (getD-set-same (c .rows) n (imageOf f) noContents (ltb-true n (length (c .rows)) t)) ∙ image-behind f k d h)
     (λ t. let past = ltb-false n (length (c .rows)) t in
     ap (λ (rows : List Contents). getD (rowAt rows n .bytes) k 0) (set-out (c .rows) n (imageOf f) past)
     ∙ ap (λ (b : Contents). getD (b .bytes) k 0) (List·getD-eq-default (c .rows) noContents past))

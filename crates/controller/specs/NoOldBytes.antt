@@ -52,7 +52,7 @@ module _ (c : Controller) (good : Bool) (f : List ℕ) (n : ℕ) (put : isPutIn 
     pub zeros-behind : byteAt later n k ≡ 0
     zeros-behind =
         let size = put-sized c good f n put in
-        byte-stays after n k es spared ∙ zero-at c good f n k put (omega arith)
+        byte-stays after n k es spared ∙ zero-at c good f n k put (omega arith) (omega arith)
 
     -- so a register that shows it reads 0, or is refused 2 asleep
     pub zeros-read : (a : ℕ) → shows (later .control) n k a ≡ true → stepOf later (read a) .answer ≡ pick (later .control .mode .slpak) (Refused 2) (Value 0)
