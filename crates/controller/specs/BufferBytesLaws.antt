@@ -1,10 +1,10 @@
 -- A buffer's bytes from step to step, and what a register reads that shows one.
 use mathlib.Core.Path.{_≡_, refl, sym, ap, ap₂, _∙_}
 use Prim.Native.Nat.{ℕ, zero, suc, _+_, _-_, _≤_, _<_}
-use mathlib.Core.Bool.{Bool, true, false, _&&_, not, and-eq-true-iff, false≢true}
-use mathlib.Core.List.{List, [], _∷_}
+use mathlib.Core.Bool.{Bool, true, false, _&&_, and-eq-true-iff, false≢true}
+use mathlib.Core.List.{List}
 use native.Mathlib.Omega.{arith}
-use borrow.Author.Tests.{eqb-true, eqb-false, eq-eqb, ne-eqb, lt-ltb, le-ltb, ltb-true, ltb-false, not-true}
+use borrow.Author.Tests.{eqb-true, eqb-false, eq-eqb, ne-eqb, lt-ltb, le-ltb, ltb-true, ltb-false}
 use lib.ListN.{getD, set, length, List·getD-eq-default}
 use lib.Seq.{set-out, getD-set-same, getD-set-other}
 use lib.Dec.{eqb, ltb}
@@ -31,9 +31,9 @@ use Rattle.rules.specs.BusPlanLaws.{FramePlan, drops, puts, frame-plan, SlotPla
 use Rattle.controller.specs.declared.Controller.{Controller}
 use Rattle.controller.specs.declared.Done.{Done}
 use Rattle.controller.specs.Carry.{heads, rowAt, moveAll, answerOf, Outcome, carry}
-use Rattle.controller.specs.Session.{stepOf, endBy, endOf}
+use Rattle.controller.specs.Session.{stepOf}
 use Rattle.controller.specs.Calls.{doneOf}
-use Rattle.controller.specs.BufferBytes.{byteAt, isPlaceOf, shows, mayChange, spares}
+use Rattle.controller.specs.BufferBytes.{byteAt, isPlaceOf, shows, mayChange}
 use Rattle.controller.specs.Code.{changed, eventChange, writePlace}
 use Rattle.controller.specs.CodeLaws.{step-plain, placed-none, sync-changes, sync-due-changes, fault-changes, timeout-changes, slotPlan}
 use Rattle.controller.specs.AccessLaws.{window-moves, write-accepted, write-refused}
@@ -52,32 +52,16 @@ same-put m n a x y =
 no-put : (n : ℕ) (a : Answer) → isPut a ≡ false → isPutIn n a ≡ false
 no-put n a e = simp e
 
-put-plan : (rows : List Contents) (good : Bool) (f : List ℕ) (n : ℕ) (p : Plan) → FramePlan p →
+pub put-plan : (rows : List Contents) (good : Bool) (f : List ℕ) (n : ℕ) (p : Plan) → FramePlan p →
     isPutIn n (carry (frame good f) rows p .answer) ≡ true → carry (frame good f) rows p .next .rows ≡ set rows n (imageOf f)
 unfolding carry moveAll
 put-plan rows good f n p (drops d a q) x = absurd (false≢true (sym (no-put n a q) ∙ x))
 put-plan rows good f n p (puts d m a q) x = ap (λ (i : ℕ). set rows i (imageOf f)) (same-put m n a q x)
 
-pub put-rows : (c : Controller) (good : Bool) (f : List ℕ) (n : ℕ) → isPutIn n (stepOf c (frame good f) .answer) ≡ true →
-    stepOf c (frame good f) .next .rows ≡ set (c .rows) n (imageOf f)
-put-rows c good f n x =
-    let same = step-plain c (frame good f) in
-    ap (λ (o : Outcome). o .next .rows) same
-    ∙ put-plan (c .rows) good f n _ (frame-plan (c .control) (heads (c .rows)) good f) (ap (λ (o : Outcome). isPutIn n (o .answer)) (sym same) ∙ x)
-
 -- a frame of another size is refused
-
-size-refused : (c : Controller) (good : Bool) (f : List ℕ) → eqb (length f) (2 + cut (getD f 1 0)) ≡ false →
-    carry (frame good f) (c .rows) (decide (c .control) (heads (c .rows)) (frame good f)) .answer ≡ Refused 11
+pub size-refused : (c : Controller) (good : Bool) (f : List ℕ) → eqb (length f) (2 + cut (getD f 1 0)) ≡ false → stepOf c (frame good f) .answer ≡ Refused 11
 unfolding carry decide refusal refuses11 pick
-size-refused c good f t = simp t
-
-pub put-size : (c : Controller) (good : Bool) (f : List ℕ) (n : ℕ) → isPutIn n (stepOf c (frame good f) .answer) ≡ true → length f ≡ 2 + cut (getD f 1 0)
-put-size c good f n x =
-    let size = 2 + cut (getD f 1 0) in
-    eqb-true (length f) size
-    (by-test (eqb (length f) size) (λ t. t)
-    (λ t. absurd (false≢true (ap (isPutIn n) (sym (ap (λ (o : Outcome). o .answer) (step-plain c (frame good f)) ∙ size-refused c good f t)) ∙ x))))
+size-refused c good f t = ap (λ (o : Outcome). o .answer) (step-plain c (frame good f)) ∙ simp t
 
 -- one that is put elsewhere, or nowhere, leaves the buffer
 unput-plan : (rows : List Contents) (good : Bool) (f : List ℕ) (n : ℕ) (p : Plan) → FramePlan p →
@@ -87,16 +71,16 @@ unput-plan rows good f n p (drops d a q) x = refl
 unput-plan rows good f n p (puts d m a q) x =
     getD-set-other rows m n (imageOf f) noContents (λ e. false≢true (sym x ∙ ap (λ (i : ℕ). isPutIn i a) e ∙ q))
 
--- a buffer that a frame was put in, or none
-pub zero-at : (c : Controller) (good : Bool) (f : List ℕ) (n k : ℕ) → isPutIn n (stepOf c (frame good f) .answer) ≡ true → 2 ≤ k → length f ≤ k →
-    byteAt (stepOf c (frame good f) .next) n k ≡ 0
-zero-at c good f n k put d h =
-    ap (λ (rows : List Contents). getD (rowAt rows n .bytes) k 0) (put-rows c good f n put)
-    ∙ by-test (ltb n (length (c .rows)))
-    (λ t. ap (λ (b : Contents). getD (b .bytes) k 0) (getD-set-same (c .rows) n (imageOf f) noContents (ltb-true n (length (c .rows)) t)) ∙ image-behind f k d h)
-    (λ t. let past = ltb-false n (length (c .rows)) t in
-    ap (λ (rows : List Contents). getD (rowAt rows n .bytes) k 0) (set-out (c .rows) n (imageOf f) past)
-    ∙ ap (λ (b : Contents). getD (b .bytes) k 0) (List·getD-eq-default (c .rows) noContents past))
+-- the bytes behind a frame whose image is in buffer n, also past the last buffer
+pub zero-at : (rows : List Contents) (f : List ℕ) (n k : ℕ) → 2 ≤ k → length f ≤ k → getD (rowAt (set rows n (imageOf f)) n .bytes) k 0 ≡ 0
+zero-at rows f n k d h =
+    by-test (ltb n (length rows))
+    (λ t. ap byte (getD-set-same rows n (imageOf f) noContents (ltb-true n (length rows) t)) ∙ image-behind f k d h)
+    (λ t. let past = ltb-false n (length rows) t in
+    ap (λ (x : List Contents). byte (rowAt x n)) (set-out rows n (imageOf f) past) ∙ ap byte (List·getD-eq-default rows noContents past))
+  where
+    byte : Contents → ℕ
+    byte b = getD (b .bytes) k 0
 
 -- ---- a write
 
@@ -166,7 +150,7 @@ module _ (c : Controller) (n k : ℕ) where
       ap (λ (d : Done). byteAt (d .next) n k) (sym same)
       ∙ ap (λ (rows : List Contents). getD (rowAt rows n .bytes) k 0) (placed-none (c .rows) 16 _ (omega arith))
 
-  step-keeps : (e : Step) → mayChange c n k e ≡ false → byteAt (stepOf c e .next) n k ≡ byteAt c n k
+  pub step-keeps : (e : Step) → mayChange c n k e ≡ false → byteAt (stepOf c e .next) n k ≡ byteAt c n k
   unfolding mayChange
   step-keeps reset x = absurd (false≢true (sym x))
   step-keeps (read a) x = ap (λ (d : Controller). byteAt d n k) (read-unchanged c a)
@@ -183,13 +167,6 @@ module _ (c : Controller) (n k : ℕ) where
       (unput-plan (c .rows) good f n _ (frame-plan (c .control) (heads (c .rows)) good f) (ap (λ (o : Outcome). isPutIn n (o .answer)) (sym same) ∙ x))
   step-keeps (fault s) x = event-keeps (fault s) (fault-changes c s)
   step-keeps timeout x = event-keeps timeout (timeout-changes c)
-
-pub session-keeps : (c : Controller) (n k : ℕ) (es : List Step) → spares c n k es ≡ true → byteAt (endOf c es) n k ≡ byteAt c n k
-unfolding endOf endBy spares stepOf
-session-keeps c n k [] x = refl
-session-keeps c n k (e ∷ es) x =
-    let both = and-eq-true-iff (not (mayChange c n k e)) (spares (stepOf c e .next) n k es) .0 x in
-    session-keeps (stepOf c e .next) n k es (both .1) ∙ step-keeps c n k e (not-true (mayChange c n k e) (both .0))
 
 -- ---- a read
 
