@@ -16,6 +16,9 @@
 //!   j from 0, where e = k % 64. The cycle is 64 steps; all answer stored.
 //! - sync: S N if k is even, S A if odd. Before them the set-up is followed by W $50+b $60 for b from 10
 //!   to 15, so that each sync arms six buffers.
+//! - slot: a bus cycle in which six buffers send: W $50+b $60 for b from 10 to 15, S N, T $01 to T $FF.
+//!   The cycle is 262 steps.
+//! - poll: R $0A if k is even, R $0B if odd, with the set-up of lines: $0A reads $04 and $0B $10.
 //! - lines: one reading of the five lines. The set-up is that of sync followed by the good frame
 //!   $24 $02 $AA $BB; the state stays. (`model sequence` has R $00 in their place.)
 //! - mixed: the 48 steps of `MIXED` below in turn, with the lines read after each step.
@@ -26,7 +29,7 @@ use std::hint::black_box;
 use std::io::{self, Write};
 use std::time::Instant;
 
-pub const NAMES: [&str; 5] = ["control", "frame", "sync", "lines", "mixed"];
+pub const NAMES: [&str; 7] = ["control", "frame", "sync", "slot", "poll", "lines", "mixed"];
 const ROUNDS: usize = 5;
 
 /// A bus cycle of a small node: requests, sync, slots, stored and queued frames and their service, a
@@ -48,6 +51,13 @@ impl Script {
 
     fn write(&mut self, address: u8, value: u8) {
         self.add(Step::Write(address, value));
+    }
+
+    /// A request of each of the six transmit buffers.
+    fn request_all(&mut self) {
+        for b in 10..16 {
+            self.write(0x50 + b, 0x60);
+        }
     }
 
     fn frames(&self) -> Vec<[u8; FRAME]> {
@@ -85,12 +95,10 @@ fn set_up(name: &str) -> Script {
     script
         .0
         .extend(b"W\t14\tFF\nW\t15\t00\nW\t08\tFA\nW\t09\tFD\nW\t10\t80\nW\t00\t40\nS\tN\n");
-    if name == "sync" || name == "lines" {
-        for b in 10..16 {
-            script.write(0x50 + b, 0x60);
-        }
+    if ["sync", "poll", "lines"].contains(&name) {
+        script.request_all();
     }
-    if name == "lines" {
+    if ["poll", "lines"].contains(&name) {
         script.add(Step::Frame(true, &[0x24, 0x02, 0xAA, 0xBB]));
     }
     script
@@ -113,6 +121,14 @@ fn cycle(name: &str) -> Script {
             }
         }
         "sync" => script.0.extend(b"S\tN\nS\tA\n"),
+        "slot" => {
+            script.request_all();
+            script.0.extend(b"S\tN\n");
+            for i in 1..=255 {
+                script.add(Step::Slot(i));
+            }
+        }
+        "poll" => script.0.extend(b"R\t0A\nR\t0B\n"),
         "lines" => script.0.extend(b"R\t00\n"),
         "mixed" => {
             let lines = MIXED.replace("; ", "\n").replace(' ', "\t");

@@ -21,7 +21,7 @@ usage: model replay [FILE]            replay a recording (standard input without
        model make KIND SEED LINES     write a random recording; KIND is mixed, wild or damaged
        model bench [N]                time N steps of each sequence (10,000,000 without N)
        model sequence NAME N          write a sequence of bench as a recording:
-                                      control, frame, sync, lines or mixed
+                                      control, frame, sync, slot, poll, lines or mixed
 ";
 
 fn open(file: Option<&str>) -> io::Result<Box<dyn Read>> {

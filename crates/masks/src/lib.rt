@@ -57,30 +57,19 @@ pub fn any(m: u16) -> bool
     m != 0
 }
 
-// The lowest buffer of the mask, or NONE.
+// The lowest buffer of the mask, or NONE: its number is the count of the zeros below it, sixteen in an empty mask.
 pub fn lowest_of(m: u16) -> u8
     ensures { λ r. ⌜ r ≡ lowest (bitOf m) 0 16 ⌝ }
 {
-    let mut i: u8 = 0;
-    while i < 16 {
-        if test(m, i) {
-            return i;
-        }
-        i += 1;
-    }
-    NONE
+    u16::trailing_zeros(m) as u8
 }
 
-// The highest buffer of the mask, or NONE.
+// The highest buffer of the mask, or NONE: its number and the count of the zeros above it make 15.
 pub fn highest_of(m: u16) -> u8
     ensures { λ r. ⌜ r ≡ highest (bitOf m) 16 ⌝ }
 {
-    let mut k: u8 = 16;
-    while k > 0 {
-        k -= 1;
-        if test(m, k) {
-            return k;
-        }
+    if m == 0 {
+        return NONE;
     }
-    NONE
+    (15 - u16::leading_zeros(m)) as u8
 }
