@@ -16,9 +16,10 @@
 //!   j from 0, where e = k % 64. The cycle is 64 steps; all answer stored.
 //! - sync: S N if k is even, S A if odd. Before them the set-up is followed by W $50+b $60 for b from 10
 //!   to 15, so that each sync arms six buffers.
-//! - slot: a bus cycle in which six buffers send: W $50+b $60 for b from 10 to 15, S N, T $01 to T $FF.
-//!   The cycle is 262 steps.
-//! - poll: R $0A if k is even, R $0B if odd, with the set-up of lines: $0A reads $04 and $0B $10.
+//! - slot: a bus cycle: W $50+b $60 for b from 10 to 15, S N, T $01 to T $FF. The cycle is 262 steps; six
+//!   slots send, the other 249 answer notsent.
+//! - poll: R $0A if k is even, R $0B if odd. Before them the set-up is followed by W $50+b $60 for b from 13
+//!   to 15 and the good frame $24 $02 $AA $BB, so that $0A reads $04 and $0B $0C.
 //! - lines: one reading of the five lines. The set-up is that of sync followed by the good frame
 //!   $24 $02 $AA $BB; the state stays. (`model sequence` has R $00 in their place.)
 //! - mixed: the 48 steps of `MIXED` below in turn, with the lines read after each step.
@@ -53,9 +54,9 @@ impl Script {
         self.add(Step::Write(address, value));
     }
 
-    /// A request of each of the six transmit buffers.
-    fn request_all(&mut self) {
-        for b in 10..16 {
+    /// A request of each transmit buffer from this one on.
+    fn request_from(&mut self, first: u8) {
+        for b in first..16 {
             self.write(0x50 + b, 0x60);
         }
     }
@@ -95,10 +96,12 @@ fn set_up(name: &str) -> Script {
     script
         .0
         .extend(b"W\t14\tFF\nW\t15\t00\nW\t08\tFA\nW\t09\tFD\nW\t10\t80\nW\t00\t40\nS\tN\n");
-    if ["sync", "poll", "lines"].contains(&name) {
-        script.request_all();
+    match name {
+        "sync" | "lines" => script.request_from(10),
+        "poll" => script.request_from(13),
+        _ => {}
     }
-    if ["poll", "lines"].contains(&name) {
+    if name == "poll" || name == "lines" {
         script.add(Step::Frame(true, &[0x24, 0x02, 0xAA, 0xBB]));
     }
     script
@@ -122,7 +125,7 @@ fn cycle(name: &str) -> Script {
         }
         "sync" => script.0.extend(b"S\tN\nS\tA\n"),
         "slot" => {
-            script.request_all();
+            script.request_from(10);
             script.0.extend(b"S\tN\n");
             for i in 1..=255 {
                 script.add(Step::Slot(i));

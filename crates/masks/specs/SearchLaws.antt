@@ -103,15 +103,6 @@ highest-none f (suc k) n h e b =
     (λ t. ap f (eqb-true n k t) ∙ p)
     (λ t. highest-none f k n (omega arith) q (let away = eqb-false n k t in omega (arith, away)))) e
 
--- the one that passes with none above it is found
-pub highest-at : (f : ℕ → Bool) (k n : ℕ) → n < k → f n ≡ true → ((j : ℕ) → n < j → f j ≡ false) → highest f k ≡ n
-unfolding highest
-highest-at f zero n h t e = absurd (omega arith)
-highest-at f (suc k) n h t e = by-test (eqb n k)
-    (λ p. let here = eqb-true n k p in pick-true (f k) k (highest f k) (ap f (sym here) ∙ t) ∙ sym here)
-    (λ p. let under : n < k = let away = eqb-false n k p in omega (arith, away) in
-    pick-false (f k) k (highest f k) (e k under) ∙ highest-at f k n under t e)
-
 pub highest-ext : (f g : ℕ → Bool) (k : ℕ) → k ≤ 16 → ((n : ℕ) → n < 16 → f n ≡ g n) → highest f k ≡ highest g k
 unfolding highest
 highest-ext f g zero h e = refl

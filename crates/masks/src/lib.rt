@@ -57,19 +57,20 @@ pub fn any(m: u16) -> bool
     m != 0
 }
 
-// The lowest buffer of the mask, or NONE: its number is the count of the zeros below it, sixteen in an empty mask.
+// The lowest buffer of the mask, or NONE: as many zeros as stand below its bit, which are sixteen in an empty mask.
 pub fn lowest_of(m: u16) -> u8
     ensures { λ r. ⌜ r ≡ lowest (bitOf m) 0 16 ⌝ }
 {
     u16::trailing_zeros(m) as u8
 }
 
-// The highest buffer of the mask, or NONE: its number and the count of the zeros above it make 15.
+// The highest buffer of the mask, or NONE: where there is one, it makes 15 with the count of the zeros above its bit.
 pub fn highest_of(m: u16) -> u8
     ensures { λ r. ⌜ r ≡ highest (bitOf m) 16 ⌝ }
 {
     if m == 0 {
-        return NONE;
+        NONE
+    } else {
+        (15 - u16::leading_zeros(m)) as u8
     }
-    (15 - u16::leading_zeros(m)) as u8
 }
