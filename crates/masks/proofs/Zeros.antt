@@ -1,4 +1,4 @@
--- What the counts of zeros of src/ name: the lowest of the last w of sixteen bits, and the highest of w bits, for every width w.
+-- What the counts of zeros of src/ name, for every width w: the lowest set bit of the last w of sixteen, and the highest of w.
 use Prim.Native.Nat.{ℕ, zero, suc, _+_, _/_, _%_, _^_, _<_, _≤_}
 use mathlib.Core.Bool.{Bool, true, false}
 use mathlib.Core.Path.{_≡_, refl, ap, sym, _∙_}
@@ -16,14 +16,14 @@ use Rattle.masks.specs.Laws.{bit-zero, bit-suc, bit-none, bit-high}
 
 -- ---- `trailing_zeros`
 
--- bit i is the digit d: i itself is found, or what is found above it, so many zeros away
+-- d is bit i: where it is set i is found, else what is found above it, behind so many zeros
 under-pick : (d i zeros found : ℕ) → d < 2 → suc i + zeros ≡ found → i + under d zeros ≡ pick (eqb d 1) i found
 unfolding pick
 under-pick zero i zeros found h e = omega arith
 under-pick (suc zero) i zeros found h e = omega arith
 under-pick (suc (suc d)) i zeros found h e = absurd (omega arith)
 
--- x is m shifted down by i: the zeros at the end of its w lowest bits lead from i to the lowest bit of m from i on, or to 16
+-- x is m shifted down by i: its trailing zeros, counted on w bits, lead from i to the lowest set bit of m from i on, or to 16
 pub trailing-lowest : (w m i x : ℕ) → i + w ≡ 16 → x ≡ m / 2 ^ i → i + trailingZeros w x ≡ lowest (bitOf m) i w
 unfolding trailingZeros lowest bitOf
 trailing-lowest zero m i x e s = omega arith
@@ -49,7 +49,7 @@ top-bit : (m n : ℕ) → 2 ^ n ≤ m → m < 2 ^ suc n → bitOf m n ≡ true
 top-bit m zero l h = bit-zero m ∙ eq-eqb (m % 2) 1 (omega arith)
 top-bit m (suc n) l h = bit-suc m n ∙ top-bit (m / 2) n (omega (arith, pow-suc 2 n)) (omega (arith, pow-suc 2 (suc n)))
 
--- m has at most w bits and is not 0: the zeros above its highest bit, that bit and those below it are the w
+-- m has at most w bits and is not 0: the zeros above its highest set bit n, that bit and the n below it make w
 pub leading-highest : (w m : ℕ) → (m ≡ 0 → ⊥) → m < 2 ^ w → leadingZeros w m + suc (highest (bitOf m) w) ≡ w
 leading-highest w m p h =
     let t = leading-top w m (omega (arith, p)) h in
@@ -57,7 +57,7 @@ leading-highest w m p h =
     highest-at (bitOf m) w (t .0) (omega (arith, t .1)) (top-bit m (t .0) (t .2) (t .3)) (λ n l b. bit-high (suc (t .0)) m n (t .3) l) in
     ap (λ (n : ℕ). leadingZeros w m + suc n) top ∙ t .1
 
--- 0 has no highest bit
+-- 0 has no set bit
 pub zero-highest : (w : ℕ) → highest (bitOf 0) w ≡ 16
 unfolding highest
 zero-highest zero = refl

@@ -57,14 +57,14 @@ pub fn any(m: u16) -> bool
     m != 0
 }
 
-// The lowest buffer of the mask, or NONE: as many zeros as stand below its bit, which are sixteen in an empty mask.
+// The lowest buffer of the mask, or NONE. Its number is the count of the zeros below its bit; an empty mask has sixteen.
 pub fn lowest_of(m: u16) -> u8
     ensures { λ r. ⌜ r ≡ lowest (bitOf m) 0 16 ⌝ }
 {
     u16::trailing_zeros(m) as u8
 }
 
-// The highest buffer of the mask, or NONE: where there is one, it makes 15 with the count of the zeros above its bit.
+// The highest buffer of the mask, or NONE. Its number and the count of the zeros above its bit make 15.
 pub fn highest_of(m: u16) -> u8
     ensures { λ r. ⌜ r ≡ highest (bitOf m) 16 ⌝ }
 {

@@ -7,6 +7,7 @@ use Rattle.masks.proofs.Zeros.{trailing-lowest}
 use Rattle.masks.proofs.lowest_of.Statement.{statement}
 use Rattle.masks.proofs.lowest_of.Tie as tie
 
+-- the count of any number is at most sixteen
 cast-result : tie.Need-cast-result
 cast-result c = record { fits = lt-of-le-of-lt (trailing-le 16 _) (lit< tt) }
 
