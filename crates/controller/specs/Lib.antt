@@ -15,6 +15,7 @@ pub mod ViewLaws
 pub mod RunLaws
 pub mod UnchangedLaws
 pub mod UntouchedLaws
+pub mod KeptLinesLaws
 pub mod RowLaws
 pub mod Code
 pub mod CodeLaws

@@ -22,4 +22,5 @@ pub mod HiddenLaws
 pub mod UnchangedLaws
 pub mod UntouchedLaws
 pub mod SendingLaws
+pub mod KeptLinesLaws
 pub mod BusPlanLaws
