@@ -1,5 +1,6 @@
 -- Gathering a line's bytes from a part of a piece.
-use Prim.Native.Nat.{ℕ, zero, suc, _+_, _-_, min}
+use Prim.Native.Nat.{ℕ, zero, suc, _+_, _-_, _<_, min}
+use mathlib.Core.Path.{_≡_}
 use mathlib.Core.List.{List}
 use mathlib.Core.Bool.{true, false}
 use lib.ListN.{length, getD}
@@ -17,3 +18,7 @@ gatherFrom h t i (suc k) = pick (eqb (getD t i 0) 10) (record { held = h; at = i
 -- the bytes of t from an index, up to an LF, to index to or to the end of t
 unfoldable pub gatherOf : Held → List ℕ → ℕ → ℕ → Gathered
 gatherOf h t from to = gatherFrom h t from (min to (length t) - from)
+
+-- no LF is among the k bytes of t from index i
+abbrev pub Clear : List ℕ → ℕ → ℕ → Type 0
+Clear t i k = (j : ℕ) → j < k → getD t (i + j) 0 ≡ 10 → ⊥

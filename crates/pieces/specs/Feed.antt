@@ -1,6 +1,6 @@
 -- A text that is fed byte by byte to something that acts on each line and writes for it: what is kept between two bytes, and
 -- what the whole text's lines give.
-use Prim.Native.Nat.{ℕ, _+_}
+use Prim.Native.Nat.{ℕ, suc, _+_}
 use mathlib.Core.List.{List, [], _∷_, _++_}
 use mathlib.Core.Bool.{Bool, true, false, _&&_}
 use lib.ListN.{length, take, set, replicate}
@@ -62,6 +62,12 @@ module _ {S : Type 0} (act : S → ℕ → List ℕ → S) (show : S → ℕ →
   unfoldable pub outOf : Feed S → List ℕ → List ℕ
   outOf f [] = []
   outOf f (b ∷ bs) = byteO f b ++ outOf (byteS f b) bs
+
+  -- How many bytes of a piece are taken where what is written goes into a room of `size` bytes, of which the first w are written: a byte
+  -- is taken while `need` bytes of room are left.
+  unfoldable pub takenOf : ℕ → ℕ → Feed S → ℕ → List ℕ → ℕ
+  takenOf need size f w [] = 0
+  takenOf need size f w (b ∷ bs) = pick (ltb size (w + need)) 0 (suc (takenOf need size (byteS f b) (w + length (byteO f b)) bs))
 
   -- what is written for a last line that is not ended, if it is not empty
   unfoldable pub lastOf : Feed S → List ℕ

@@ -3,17 +3,17 @@ use Prim.Native.Nat.{ℕ, zero, suc, _+_, _-_, _≤_, _<_, min, max}
 use native.Mathlib.Omega.{arith}
 use mathlib.Core.Path.{_≡_, refl, sym, ap, _∙_}
 use mathlib.Core.List.{List, [], _++_, append-nil}
-use mathlib.Core.Bool.{Bool, true, false}
-use borrow.Author.Tests.{lt-ltb, le-ltb, eqb-true, eq-eqb, ne-eqb}
+use mathlib.Core.Bool.{Bool, true, false, _||_}
+use borrow.Author.Tests.{lt-ltb, le-ltb, ltb-true, ltb-false, eqb-true, eqb-false, eq-eqb, ne-eqb}
 use lib.ListN.{length, take, set, getD}
-use lib.Dec.{eqb}
+use lib.Dec.{eqb, ltb}
 use Rattle.masks.specs.Pick.{pick}
 use Rattle.masks.specs.PickLaws.{pick-true, pick-false, pick-keeps, by-test}
 use Rattle.pieces.specs.declared.Held.{Held}
 use Rattle.pieces.specs.declared.Gathered.{Gathered}
 use Rattle.pieces.specs.Feed.{Feed, pushOf, lineIn, isRead, endLine, byteS, byteO, feedEnd, outOf}
 use Rattle.pieces.specs.FeedLaws.{endOf-more, outOf-more}
-use Rattle.pieces.specs.CodeGather.{gatherFrom, gatherOf}
+use Rattle.pieces.specs.CodeGather.{gatherFrom, gatherOf, Clear}
 
 -- ---- one byte at a time, up to index stop
 
@@ -53,6 +53,32 @@ at-any zero h h′ t i = refl
 at-any (suc k) h h′ t i =
     by-test (eqb (getD t i 0) 10) (λ q. simp (pick-true, q))
     (λ q. simp (pick-false, q) (at-any k (pushOf h (getD t i 0)) (pushOf h′ (getD t i 0)) t (i + 1)))
+
+-- ---- bytes without an LF
+
+pub clear-one : (t : List ℕ) (i : ℕ) → eqb (getD t i 0) 10 ≡ false → Clear t i 1
+clear-one t i q j l e = let z : i + j ≡ i = omega arith in eqb-false (getD t i 0) 10 q (rw z at e)
+
+pub clear-both : (t : List ℕ) (i k m : ℕ) (a b : Bool) → (a ≡ false → Clear t i k) → (b ≡ false → Clear t (i + k) m) → (a || b) ≡ false → Clear t i (k + m)
+clear-both t i k m true b f g q = absurd (let z : _≡_ {A = ℕ} 0 1 = cc in omega arith)
+clear-both t i k m false b f g q =
+    λ j l e.
+    by-test (ltb j k) (λ h. f refl j (ltb-true j k h) e)
+    (λ h.
+    let n = ltb-false j k h in
+    let z : i + j ≡ i + k + (j - k) = omega arith in
+    g q (j - k) (omega arith) (rw z at e))
+
+-- they are passed over
+pub from-clear : (k : ℕ) (h : Held) (t : List ℕ) (i stop : ℕ) → i + k ≤ stop → Clear t i k
+    → gatherFrom h t i (stop - i) .at ≡ gatherFrom h t (i + k) (stop - (i + k)) .at
+from-clear zero h t i stop l c = let z : i ≡ i + 0 = omega arith in ap (λ (n : ℕ). gatherFrom h t n (stop - n) .at) z
+from-clear (suc k) h t i stop l c =
+    let z : i + k + 1 ≡ i + suc k = omega arith in
+    from-clear k h t i stop (omega arith) (λ j m. c j (omega arith))
+    ∙ ap (λ (g : Gathered). g .at) (from-byte h t (i + k) stop (omega arith) (c k (omega arith)))
+    ∙ at-any (stop - (i + k + 1)) (pushOf h (getD t (i + k) 0)) h t (i + k + 1)
+    ∙ ap (λ (n : ℕ). gatherFrom h t n (stop - n) .at) z
 
 -- ---- where gathering stops: at an LF before index stop, or there
 
@@ -104,12 +130,12 @@ stops-within h t from to g e k l = let z : max from (min to (length t)) ≡ to =
 module _ {S : Type 0} (act : S → ℕ → List ℕ → S) (show : S → ℕ → Bool → List ℕ → List ℕ) where
   -- ---- a byte that is no LF
 
-  byte-pushes : (s : S) (h : Held) (n b : ℕ) → eqb b 10 ≡ false
+  pub byte-pushes : (s : S) (h : Held) (n b : ℕ) → eqb b 10 ≡ false
       → byteS act show (record { state = s; held = h; number = n }) b ≡ record { state = s; held = pushOf h b; number = n }
   unfolding byteS
   byte-pushes s h n b e = pick-false _ _ _ e
 
-  byte-silent : (f : Feed S) (b : ℕ) → eqb b 10 ≡ false → byteO act show f b ≡ []
+  pub byte-silent : (f : Feed S) (b : ℕ) → eqb b 10 ≡ false → byteO act show f b ≡ []
   unfolding byteO
   byte-silent f b e = simp (e, pick-false)
 

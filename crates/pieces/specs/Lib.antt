@@ -8,3 +8,4 @@ pub mod WholeLaws
 pub mod PartLaws
 pub mod CodeGather
 pub mod GatherLaws
+pub mod TakenLaws

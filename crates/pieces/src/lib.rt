@@ -1,8 +1,10 @@
 // The line of a text that comes in pieces.
 ghost use mathlib.Core.Path.{_≡_};
-ghost use Prim.Native.Nat.{min};
+ghost use Prim.Native.Nat.{min, _+_, _-_, _≤_};
+ghost use mathlib.Core.Bool.{false};
+ghost use lib.ListN.{length};
 ghost use Rattle.pieces.specs.Feed.{noneHeld, numberAfter, isRead};
-ghost use Rattle.pieces.specs.CodeGather.{gatherOf};
+ghost use Rattle.pieces.specs.CodeGather.{gatherFrom, gatherOf, Clear};
 
 // The bytes of a line that is not ended yet: the first len of them. A length of 65 stands for any above 64.
 pub struct Held {
@@ -92,12 +94,47 @@ pub fn is_read(number: u32) -> bool
     number <= 999999
 }
 
+// An LF is among the four bytes from index i on. By |, not ||, so that no byte costs a branch.
+fn lf_in_four(s: &[u8], i: usize) -> bool
+    requires { ⌜ i + 4 ≤ length (now s) ⌝ }
+    ensures { λ r. ⌜ (r ≡ false → Clear (now (s .entry)) i 4) ⌝ }
+{
+    (s[i] == 10) | (s[i + 1] == 10) | (s[i + 2] == 10) | (s[i + 3] == 10)
+}
+
+// An LF is among the sixteen bytes from index i on.
+fn lf_in_sixteen(s: &[u8], i: usize) -> bool
+    requires { ⌜ i + 16 ≤ length (now s) ⌝ }
+    ensures { λ r. ⌜ (r ≡ false → Clear (now (s .entry)) i 16) ⌝ }
+{
+    lf_in_four(s, i) | lf_in_four(s, i + 4) | lf_in_four(s, i + 8) | lf_in_four(s, i + 12)
+}
+
+// Skips sixteen bytes at a time while no LF is among them: from the index reached, gather stops where it does from index from.
+fn without_lf(s: &[u8], from: usize, end: usize) -> usize
+    requires { ⌜ end ≤ length (now s) ⌝ }
+    ensures onward { λ r. ⌜ from ≤ r ⌝ }
+    ensures same_end { λ r. ⌜ gatherFrom noneHeld (now (s .entry)) from (end - from) .at ≡ gatherFrom noneHeld (now (s .entry)) r (end - r) .at ⌝ }
+{
+    let mut i = from;
+    while i < end {
+        if end - i < 16 {
+            return i;
+        }
+        if lf_in_sixteen(s, i) {
+            return i;
+        }
+        i += 16;
+    }
+    i
+}
+
 // The index up to which gather takes the bytes: that of the first LF from index from on, if one is there.
 pub fn line_end(piece: &[u8], from: usize, to: usize) -> usize
     ensures { λ r. ⌜ r ≡ gatherOf noneHeld (now (piece .entry)) from to .at ⌝ }
 {
     let end = least(to, piece.len());
-    let mut i = from;
+    let mut i = without_lf(piece, from, end);
     while i < end {
         if piece[i] == 10 {
             return i;
