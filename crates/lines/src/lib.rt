@@ -1,9 +1,13 @@
 // One line of a recording, without its LF, as a step. Any bytes get an answer: what is no step is unread.
+mod in_text;
+
 ghost use mathlib.Core.Path.{_≡_};
 ghost use Prim.Native.Nat.{_≤_};
 ghost use lib.ListN.{length};
 ghost use Rattle.lines.specs.Grammar.{bytesIn, noBytes, nibbleOf, byteOf, plainOf, oneOf, syncOf, faultOf, threeOf, fourOf, sevenOf, shortOf, isFrame, decodeFrom, frameLine, lineOf};
 use controller::Call;
+pub use in_text::none;
+pub use in_text::read;
 use rules::Fault;
 use rules::SyncKind;
 
@@ -32,6 +36,13 @@ pub fn frame_size(f: FrameBytes) -> usize
 pub struct Parsed {
     pub line: Line,
     pub frame: FrameBytes,
+}
+
+// A step that stands in a text: its call, its frame's bytes, and the index of its line's LF; 0 where there is none.
+pub struct Found {
+    pub call: Call,
+    pub frame: FrameBytes,
+    pub at: usize,
 }
 
 // The value of an upper-case hexadecimal digit, or 16.
