@@ -63,7 +63,7 @@ fn rest(text: &[u8], end: usize) {
 // The row of an answer as the replay text has it, behind the number of its line; sent is a sent frame's bytes.
 fn row(answer: Answer, sent: &[u8], irq: u8) {
     let mut text = [0u8; 64];
-    let end = report::row(&mut text, 0, 1, answer, sent, irq);
+    let end = report::row(&mut text, 0, report::number_of(1), answer, sent, irq);
     rest(&text, end);
 }
 

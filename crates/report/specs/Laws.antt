@@ -1,5 +1,5 @@
 -- Laws of the report's text: texts put one behind the other, rooms that are long enough, and how long a row can be.
-use Prim.Native.Nat.{ℕ, zero, suc, _+_, _-_, _/_, _%_, _≤_, _<_, max}
+use Prim.Native.Nat.{ℕ, zero, suc, _+_, _/_, _%_, _≤_, _<_, max}
 use native.Mathlib.Nat.{le-of-lt, min-le-left, zero-add, add-zero, add-suc, suc-add, add-assoc}
 use native.Mathlib.Numerals.{add-one}
 use native.Mathlib.Omega.{arith}
@@ -8,19 +8,20 @@ use mathlib.Core.List.{List, [], _∷_, _++_, append-assoc, append-nil}
 use mathlib.Core.Bool.{Bool, true, false}
 use borrow.Author.Tests.{leb-true, le-leb, lt-leb}
 use lib.ListN.{length, length-append, length-take, length-replicate, replicate, set, take, drop, getD}
-use lib.Seq.{sets, length-sets, sets-eq, take-suc, take-at, drop-at, length-take-le, set-comm}
+use lib.Seq.{sets, length-sets, sets-eq, take-suc, take-at, take-all, drop-at, length-take-le, set-comm, set-set}
 use lib.Dec.{ltb, leb}
 use Rattle.masks.specs.Pick.{pick}
 use Rattle.masks.specs.PickLaws.{pick-true, pick-false, pick-keeps}
 use Rattle.rules.specs.declared.SyncKind.{SyncKind}
 use Rattle.rules.specs.declared.SyncKind.the-variants.{Normal, Alarm}
 use Rattle.rules.specs.declared.Answer.{Answer}
+use Rattle.rules.specs.declared.Answer.the-variants.{Ok, Value, Stored, Queued, HeldOff, Sent, Pulse, Refused, Overrun, Unmatched, BadFrame, Ignored, Woke, NotSent}
 use Rattle.rules.specs.Answers.{wordOf, Given, dash, value, buffer, counted, kind, number, givenOf, isSent, Detail, given, bytes, framed, detailOf}
 use Rattle.report.specs.Text.{hexOf, hexesOf, digitsOf, widthOf, decimalOf, wordTexts, wordText, unreadText, kindText, givenText, detailText, rowText, rowOf, unreadRow, headingOf, Put, Wrote, fitting}
 
 -- ---- texts one behind the other
 
-pub sets-append : (xs ys o : List ℕ) (at : ℕ) → sets (sets o at xs) (at + length xs) ys ≡ sets o at (xs ++ ys)
+sets-append : (xs ys o : List ℕ) (at : ℕ) → sets (sets o at xs) (at + length xs) ys ≡ sets o at (xs ++ ys)
 sets-append [] ys o at = ap (λ (n : ℕ). sets o n ys) (add-zero at)
 sets-append (x ∷ xs) ys o at =
     ap (λ (n : ℕ). sets (sets (set o at x) (suc at) xs) n ys) (add-suc at (length xs) ∙ sym (suc-add at (length xs)))
@@ -41,21 +42,32 @@ then {o} {at} {xs} {ys} {p} {q} {r} {t} a b = record {
 pub kept : {o : List ℕ} {at : ℕ} {xs p : List ℕ} {r : ℕ} → Put o at xs p r → length p ≡ length o
 kept {o} {at} {xs} a = ap length (a .text) ∙ length-sets o at xs
 
-sets-cons : (xs ys : List ℕ) (y i : ℕ) → sets (y ∷ ys) (suc i) xs ≡ y ∷ sets ys i xs
-sets-cons [] ys y i = refl
-sets-cons (x ∷ xs) ys y i = sets-cons xs (set ys i x) y (suc i)
+-- ---- a text over the end of another
 
-sets-drop : (a : ℕ) (o xs : List ℕ) → a ≤ length o → sets o a xs ≡ take a o ++ sets (drop a o) 0 xs
-sets-drop zero o xs h = refl
-sets-drop (suc a) [] xs h = absurd (omega arith)
-sets-drop (suc a) (y ∷ o) xs h = sets-cons xs o y a ∙ ap (λ (l : List ℕ). y ∷ l) (sets-drop a o xs (omega arith))
+sets-before : (xs o : List ℕ) (at j d : ℕ) → j < at → sets (set o j d) at xs ≡ set (sets o at xs) j d
+sets-before [] o at j d h = refl
+sets-before (x ∷ xs) o at j d h =
+    let ne : (j ≡ at) → ⊥ = λ e. omega arith in
+    ap (λ (l : List ℕ). sets l (suc at) xs) (set-comm o j at d x ne) ∙ sets-before xs (set o at x) (suc at) j d (omega arith)
 
--- what was put into the part `&mut o[a..]`, said of the whole
-pub within : {o : List ℕ} {a : ℕ} {xs p : List ℕ} {r : ℕ} → a ≤ length o → Put (drop a o) 0 xs p r → Put o a xs (take a o ++ p) (a + r)
-within {o} {a} {xs} {p} {r} h q = record {
-  next = ap (λ (n : ℕ). a + n) (q .next ∙ zero-add (length xs));
-  text = ap (λ (l : List ℕ). take a o ++ l) (q .text) ∙ sym (sets-drop a o xs h);
-}
+overwritten : (ys zs o : List ℕ) (k : ℕ) → length ys ≤ length zs → sets (sets o k ys) k zs ≡ sets o k zs
+overwritten [] zs o k h = refl
+overwritten (y ∷ ys) [] o k h = absurd (omega arith)
+overwritten (y ∷ ys) (z ∷ zs) o k h =
+    ap (λ (l : List ℕ). sets l (suc k) zs) (sym (sets-before ys (set o k y) (suc k) k z (omega arith)) ∙ ap (λ (l : List ℕ). sets l (suc k) ys) (set-set o k y z))
+    ∙ overwritten ys zs (set o k z) (suc k) (omega arith)
+
+-- of a text xs ++ ys the part ys does not count where another one is put over it
+pub covers : {o : List ℕ} {at : ℕ} (xs ys : List ℕ) {zs p q : List ℕ} {r t : ℕ} → p ≡ sets o at (xs ++ ys) → r ≡ at + length xs → length ys ≤ length zs → Put p r zs q t → Put o at (xs ++ zs) q t
+covers {o} {at} xs ys {zs} {p} {q} {r} {t} e f h a =
+    let whole : Put o at xs (sets o at xs) (at + length xs) = record { next = refl; text = refl } in
+    let same : sets p r zs ≡ sets (sets o at xs) (at + length xs) zs =
+    ap (λ (n : ℕ). sets p n zs) f
+    ∙ ap (λ (l : List ℕ). sets l (at + length xs) zs) (e ∙ sym (sets-append xs ys o at))
+    ∙ overwritten ys zs (sets o at xs) (at + length xs) h
+    in
+    let over : Put (sets o at xs) (at + length xs) zs q t = record { next = a .next ∙ ap (λ (n : ℕ). n + length zs) f; text = a .text ∙ same } in
+    then whole over
 
 -- ---- a text at the start of a room
 
@@ -122,6 +134,26 @@ more s o at i h =
     ∙ sets-append (take i s) (getD s i 0 ∷ []) o at
     ∙ ap (sets o at) (sym (take-suc s i 0 h) ∙ ap (λ (n : ℕ). take n s) (sym (add-one i)))
 
+-- the room after the stores of w's bytes 0 to k, one by one
+unfoldable pub stores : ℕ → List ℕ → List ℕ → ℕ → List ℕ
+stores zero w o at = set o at (getD w 0 0)
+stores (suc k) w o at = set (stores k w o at) (at + suc k) (getD w (suc k) 0)
+
+stores-sets : (k : ℕ) (w o : List ℕ) (at : ℕ) → k < length w → stores k w o at ≡ sets o at (take (suc k) w)
+unfolding stores
+stores-sets zero w o at h = ap (λ (n : ℕ). set o n (getD w 0 0)) (sym (add-zero at)) ∙ more w o at 0 h
+stores-sets (suc k) w o at h =
+    ap (λ (l : List ℕ). set l (at + suc k) (getD w (suc k) 0)) (stores-sets k w o at (omega arith))
+    ∙ more w o at (suc k) h
+    ∙ ap (λ (n : ℕ). sets o at (take n w)) (add-one (suc k))
+
+-- the stores of all its bytes put it
+pub stores-put : (k : ℕ) (w o : List ℕ) (at : ℕ) → length w ≡ suc k → Put o at w (stores k w o at) (at + suc k)
+stores-put k w o at e = record {
+  next = ap (λ (n : ℕ). at + n) (sym e);
+  text = stores-sets k w o at (omega arith) ∙ ap (sets o at) (take-all (suc k) w (omega arith));
+}
+
 hexes-append : (xs ys : List ℕ) → hexesOf (xs ++ ys) ≡ hexesOf xs ++ hexesOf ys
 unfolding hexesOf
 hexes-append [] ys = refl
@@ -135,43 +167,10 @@ hexes-more s i h =
     ∙ sym (hexes-append (take i s) (getD s i 0 ∷ []))
     ∙ ap hexesOf (sym (take-suc s i 0 h) ∙ ap (λ (n : ℕ). take n s) (sym (add-one i)))
 
--- a store behind a text may come before it
-sets-set : (xs o : List ℕ) (at j d : ℕ) → at + length xs ≤ j → sets (set o j d) at xs ≡ set (sets o at xs) j d
-sets-set [] o at j d h = refl
-sets-set (x ∷ xs) o at j d h =
-    let ne : (j ≡ at) → ⊥ = λ e. omega arith in
-    let h′ : suc at + length xs ≤ j = omega arith in
-    ap (λ (l : List ℕ). sets l (suc at) xs) (set-comm o j at d x ne) ∙ sets-set xs (set o at x) (suc at) j d h′
-
 pub length-digits : (k n : ℕ) → length (digitsOf k n) ≡ k
 unfolding digitsOf
 length-digits zero n = refl
 length-digits (suc k) n = length-append (digitsOf k (n / 10)) ((48 + n % 10) ∷ []) ∙ ap (λ (m : ℕ). m + 1) (length-digits k (n / 10)) ∙ add-one k
-
-digits-last : (o : List ℕ) (at i n : ℕ) → sets (set o (at + i) (48 + n % 10)) at (digitsOf i (n / 10)) ≡ sets o at (digitsOf (suc i) n)
-unfolding digitsOf
-digits-last o at i n =
-    let e : length (digitsOf i (n / 10)) ≡ i = length-digits i (n / 10) in
-    let h : at + length (digitsOf i (n / 10)) ≤ at + i = omega arith in
-    sets-set (digitsOf i (n / 10)) o at (at + i) (48 + n % 10) h
-    ∙ ap (λ (m : ℕ). set (sets o at (digitsOf i (n / 10))) (at + m) (48 + n % 10)) (sym e)
-    ∙ sets-append (digitsOf i (n / 10)) ((48 + n % 10) ∷ []) o at
-
--- one decimal digit more, from the last to the first
-pub digits-turn : (o : List ℕ) (at i n : ℕ) → 0 < i → sets (set o (at + (i - 1)) (48 + n % 10)) at (digitsOf (i - 1) (n / 10)) ≡ sets o at (digitsOf i n)
-digits-turn o at i n h =
-    let e : suc (i - 1) ≡ i = omega arith in
-    digits-last o at (i - 1) n ∙ ap (λ (m : ℕ). sets o at (digitsOf m n)) e
-
--- a row in three parts: number and answer, detail, lines
-pub row-parts : (n : ℕ) (word detail : List ℕ) (irq : ℕ) → rowText n word detail irq ≡ (decimalOf n ++ (9 ∷ []) ++ word ++ (9 ∷ [])) ++ detail ++ ((9 ∷ []) ++ hexOf irq ++ (10 ∷ []))
-unfolding rowText
-row-parts n word detail irq = simp append-assoc
-
--- what a row without a step has between its number and its lines is fixed
-pub unread-parts : (n irq : ℕ) → unreadRow n irq ≡ decimalOf n ++ (9 ∷ 117 ∷ 110 ∷ 114 ∷ 101 ∷ 97 ∷ 100 ∷ 9 ∷ 45 ∷ []) ++ ((9 ∷ []) ++ hexOf irq ++ (10 ∷ []))
-unfolding rowText unreadText
-unread-parts n irq = simp append-assoc
 
 -- ---- lengths
 
@@ -184,7 +183,7 @@ width-le n =
     pick-le (ltb n 10) 1 _ 6 (omega arith) (pick-le (ltb n 100) 2 _ 6 (omega arith)
     (pick-le (ltb n 1000) 3 _ 6 (omega arith) (pick-le (ltb n 10000) 4 _ 6 (omega arith) (pick-le (ltb n 100000) 5 6 6 (omega arith) (omega arith)))))
 
-pub length-decimal : (n : ℕ) → length (decimalOf n) ≤ 6
+length-decimal : (n : ℕ) → length (decimalOf n) ≤ 6
 unfolding decimalOf
 length-decimal n = let e : length (digitsOf (widthOf n) n) ≡ widthOf n = length-digits (widthOf n) n in let h : widthOf n ≤ 6 = width-le n in omega arith
 
@@ -208,15 +207,29 @@ entry-within [] w = omega arith
 entry-within (t ∷ ts) zero = omega arith
 entry-within (t ∷ ts) (suc w) = omega (arith, entry-within ts w)
 
-pub length-word : (w : ℕ) → length (wordText w) ≤ 9
+length-word : (w : ℕ) → length (wordText w) ≤ 9
 unfolding wordTexts longest
 length-word w = entry-within wordTexts w
 
--- a row's number and answer with their tabs
-pub length-start : (n w : ℕ) → length (decimalOf n ++ (9 ∷ []) ++ wordText w ++ (9 ∷ [])) ≤ 17
-length-start n w = simp length-append (omega (arith, length-decimal n, length-word w))
+-- no answer's word is shorter than "ok"
+pub word-some : (a : Answer) → 2 ≤ length (wordText (wordOf a))
+unfolding wordTexts
+word-some Ok = omega arith
+word-some (Value v) = omega arith
+word-some (Stored n) = omega arith
+word-some (Queued n) = omega arith
+word-some (HeldOff n) = omega arith
+word-some (Sent k) = omega arith
+word-some (Pulse k) = omega arith
+word-some (Refused r) = omega arith
+word-some Overrun = omega arith
+word-some Unmatched = omega arith
+word-some BadFrame = omega arith
+word-some Ignored = omega arith
+word-some Woke = omega arith
+word-some NotSent = omega arith
 
-pub length-kind : (k : SyncKind) → length (kindText k) ≡ 1
+length-kind : (k : SyncKind) → length (kindText k) ≡ 1
 unfolding kindText
 length-kind Normal = refl
 length-kind Alarm = refl
@@ -235,10 +248,14 @@ length-given (counted k) = omega (arith, length-hex k)
 length-given (kind k) = omega (arith, length-kind k)
 length-given (number r) = omega (arith, length-hex r)
 
-pub length-detail : (d : Detail) → length (frameIn d) ≤ 14 → length (detailText d) ≤ 28
+length-detail : (d : Detail) → length (frameIn d) ≤ 14 → length (detailText d) ≤ 28
 unfolding detailText
 length-detail (given g) h = omega (arith, length-given g)
 length-detail (bytes k f) h = omega (arith, length-hexes f)
+
+-- a row's answer and detail with their tabs
+pub length-answer : (w : ℕ) (d : Detail) → length (frameIn d) ≤ 14 → length (wordText w ++ (9 ∷ []) ++ detailText d ++ (9 ∷ [])) ≤ 39
+length-answer w d h = simp length-append (omega (arith, length-word w, length-detail d h))
 
 -- an answer's detail holds no other frame than the one that was sent
 frame-framed : (t : Bool) (g : Given) (f : List ℕ) → length f ≤ 14 → length (frameIn (framed t g f)) ≤ 14

@@ -5,29 +5,49 @@ ghost use Prim.Native.Nat.{_+_, _<_, _≤_};
 ghost use lib.ListN.{length};
 ghost use lib.Seq.{sets};
 ghost use Rattle.rules.specs.Answers.{wordOf, detailOf};
-ghost use Rattle.report.specs.Text.{Put, digitOf, hexOf, hexesOf, widthOf, digitsOf, decimalOf, wordText, kindText, detailText, rowOf, unreadRow};
+ghost use Rattle.report.specs.Text.{Put, digitOf, hexOf, hexesOf, wordText, unreadText, kindText, detailText};
+ghost use Rattle.report.specs.CodeNumbers.{wordBytes, numberText, numberedRow};
+use crate::Number;
+use crate::puts::put_byte;
+use crate::puts::put3;
+use crate::puts::put5;
+use crate::puts::put7;
+use crate::puts::put8;
+use crate::puts::put9;
 use rules::Answer;
 use rules::SyncKind;
 
-// The bytes s.
-pub(crate) fn put(out: &mut [u8], at: usize, s: &[u8]) -> usize
-    requires { ⌜ at + length (now s) ≤ length (now out) ⌝ }
-    ensures { λ r. ⌜ Put (now (out .entry)) at (now (s .entry)) (now (out .exit)) r ⌝ }
+// The bytes of a word, the lowest first.
+fn bytes_of(d: u64) -> [u8; 8]
+    ensures { λ r. ⌜ r ≡ wordBytes 8 d ⌝ }
 {
-    let mut i = 0;
-    while i < s.len() {
-        out[at + i] = s[i];
-        i += 1;
-    }
-    at + i
+    let d1 = d / 256;
+    let d2 = d1 / 256;
+    let d3 = d2 / 256;
+    let d4 = d3 / 256;
+    let d5 = d4 / 256;
+    let d6 = d5 / 256;
+    let d7 = d6 / 256;
+    [
+        (d % 256) as u8,
+        (d1 % 256) as u8,
+        (d2 % 256) as u8,
+        (d3 % 256) as u8,
+        (d4 % 256) as u8,
+        (d5 % 256) as u8,
+        (d6 % 256) as u8,
+        (d7 % 256) as u8,
+    ]
 }
 
-fn put_byte(out: &mut [u8], at: usize, b: u8) -> usize
-    requires { ⌜ at + 1 ≤ length (now out) ⌝ }
-    ensures { λ r. ⌜ Put (now (out .entry)) at (b ∷ []) (now (out .exit)) r ⌝ }
+// A number and its tab, by one store of eight bytes: what the row puts next covers those behind the tab.
+fn number(out: &mut [u8], at: usize, x: Number) -> usize
+    requires { ⌜ at + 8 ≤ length (now out) ⌝ }
+    ensures { λ r. ⌜ (r ≡ at + length (numberText x)) × (now (out .exit) ≡ sets (now (out .entry)) at (wordBytes 8 (x .digits))) ⌝ }
 {
-    out[at] = b;
-    at + 1
+    let bytes = bytes_of(x.digits);
+    put8(out, at, &bytes);
+    at + x.len % 8 + 1
 }
 
 // An upper-case hexadecimal digit.
@@ -35,7 +55,24 @@ fn digit(d: u8) -> u8
     requires { ⌜ d < 16 ⌝ }
     ensures { λ r. ⌜ r ≡ digitOf d ⌝ }
 {
-    if d < 10 { b'0' + d } else { b'A' - 10 + d }
+    match d {
+        0 => b'0',
+        1 => b'1',
+        2 => b'2',
+        3 => b'3',
+        4 => b'4',
+        5 => b'5',
+        6 => b'6',
+        7 => b'7',
+        8 => b'8',
+        9 => b'9',
+        10 => b'A',
+        11 => b'B',
+        12 => b'C',
+        13 => b'D',
+        14 => b'E',
+        _ => b'F',
+    }
 }
 
 fn hex(out: &mut [u8], at: usize, v: u8) -> usize
@@ -60,142 +97,106 @@ fn hexes(out: &mut [u8], at: usize, s: &[u8]) -> usize
     next
 }
 
-// The number of a line number's digits, at most six.
-fn width(n: u32) -> usize
-    ensures { λ r. ⌜ r ≡ widthOf n ⌝ }
+// A value and the byte behind it.
+fn hex_field(out: &mut [u8], at: usize, v: u8, after: u8) -> usize
+    requires { ⌜ at + 3 ≤ length (now out) ⌝ }
+    ensures { λ r. ⌜ Put (now (out .entry)) at (hexOf v ++ (after ∷ [])) (now (out .exit)) r ⌝ }
 {
-    if n < 10 {
-        return 1;
-    }
-    if n < 100 {
-        return 2;
-    }
-    if n < 1000 {
-        return 3;
-    }
-    if n < 10000 {
-        return 4;
-    }
-    if n < 100000 {
-        return 5;
-    }
-    6
+    let at = hex(out, at, v);
+    put_byte(out, at, after)
 }
 
-// The last k decimal digits of n, from the last to the first.
-fn digits(out: &mut [u8], at: usize, k: usize, n: u32)
-    requires { ⌜ at + k ≤ length (now out) ⌝ }
-    ensures { λ _. ⌜ now (out .exit) ≡ sets (now (out .entry)) at (digitsOf k n) ⌝ }
+// A frame and a tab.
+fn frame_field(out: &mut [u8], at: usize, s: &[u8]) -> usize
+    requires { ⌜ (at + 29 ≤ length (now out)) × (length (now s) ≤ 14) ⌝ }
+    ensures { λ r. ⌜ Put (now (out .entry)) at (hexesOf (now (s .entry)) ++ (9 ∷ [])) (now (out .exit)) r ⌝ }
 {
-    let mut i = k;
-    let mut rest = n;
-    while 0 < i {
-        i -= 1;
-        out[at + i] = b'0' + (rest % 10) as u8;
-        rest = rest / 10;
-    }
-}
-
-fn decimal(out: &mut [u8], at: usize, n: u32) -> usize
-    requires { ⌜ at + 6 ≤ length (now out) ⌝ }
-    ensures { λ r. ⌜ Put (now (out .entry)) at (decimalOf n) (now (out .exit)) r ⌝ }
-{
-    let k = width(n);
-    digits(out, at, k, n);
-    at + k
-}
-
-fn word(out: &mut [u8], at: usize, a: Answer) -> usize
-    requires { ⌜ at + 9 ≤ length (now out) ⌝ }
-    ensures { λ r. ⌜ Put (now (out .entry)) at (wordText (wordOf a)) (now (out .exit)) r ⌝ }
-{
-    match a {
-        Answer::Ok => put(out, at, b"ok"),
-        Answer::Value(_) => put(out, at, b"read"),
-        Answer::Stored(_) => put(out, at, b"stored"),
-        Answer::Queued(_) => put(out, at, b"queued"),
-        Answer::HeldOff(_) => put(out, at, b"heldoff"),
-        Answer::Sent(_) => put(out, at, b"sent"),
-        Answer::Pulse(_) => put(out, at, b"pulse"),
-        Answer::Refused(_) => put(out, at, b"refused"),
-        Answer::Overrun => put(out, at, b"overrun"),
-        Answer::Unmatched => put(out, at, b"unmatched"),
-        Answer::BadFrame => put(out, at, b"badframe"),
-        Answer::Ignored => put(out, at, b"ignored"),
-        Answer::Woke => put(out, at, b"woke"),
-        Answer::NotSent => put(out, at, b"notsent"),
-    }
-}
-
-fn kind(out: &mut [u8], at: usize, k: SyncKind) -> usize
-    requires { ⌜ at + 1 ≤ length (now out) ⌝ }
-    ensures { λ r. ⌜ Put (now (out .entry)) at (kindText k) (now (out .exit)) r ⌝ }
-{
-    match k {
-        SyncKind::Normal => put_byte(out, at, b'N'),
-        SyncKind::Alarm => put_byte(out, at, b'A'),
-    }
-}
-
-fn detail(out: &mut [u8], at: usize, a: Answer, sent: &[u8]) -> usize
-    requires { ⌜ (at + 28 ≤ length (now out)) × (length (now sent) ≤ 14) ⌝ }
-    ensures { λ r. ⌜ Put (now (out .entry)) at (detailText (detailOf a (now (sent .entry)))) (now (out .exit)) r ⌝ }
-{
-    match a {
-        Answer::Value(v) => hex(out, at, v),
-        Answer::Stored(n) => hex(out, at, n),
-        Answer::Queued(n) => hex(out, at, n),
-        Answer::HeldOff(n) => hex(out, at, n),
-        Answer::Sent(_) => hexes(out, at, sent),
-        Answer::Pulse(k) => kind(out, at, k),
-        Answer::Refused(r) => hex(out, at, r),
-        Answer::Ok => put_byte(out, at, b'-'),
-        Answer::Overrun => put_byte(out, at, b'-'),
-        Answer::Unmatched => put_byte(out, at, b'-'),
-        Answer::BadFrame => put_byte(out, at, b'-'),
-        Answer::Ignored => put_byte(out, at, b'-'),
-        Answer::Woke => put_byte(out, at, b'-'),
-        Answer::NotSent => put_byte(out, at, b'-'),
-    }
-}
-
-// A row's number and answer, each with its tab.
-fn start(out: &mut [u8], at: usize, n: u32, a: Answer) -> usize
-    requires { ⌜ at + 17 ≤ length (now out) ⌝ }
-    ensures { λ r. ⌜ Put (now (out .entry)) at (decimalOf n ++ (9 ∷ []) ++ wordText (wordOf a) ++ (9 ∷ [])) (now (out .exit)) r ⌝ }
-{
-    let at = decimal(out, at, n);
-    let at = put_byte(out, at, b'\t');
-    let at = word(out, at, a);
+    let at = hexes(out, at, s);
     put_byte(out, at, b'\t')
 }
 
-// A row's five lines, with the tab before them and the LF behind.
-fn end(out: &mut [u8], at: usize, irq: u8) -> usize
-    requires { ⌜ at + 4 ≤ length (now out) ⌝ }
-    ensures { λ r. ⌜ Put (now (out .entry)) at ((9 ∷ []) ++ hexOf irq ++ (10 ∷ [])) (now (out .exit)) r ⌝ }
+fn pulse(out: &mut [u8], at: usize, k: SyncKind) -> usize
+    requires { ⌜ at + 8 ≤ length (now out) ⌝ }
+    ensures { λ r. ⌜ Put (now (out .entry)) at (wordText 7 ++ (9 ∷ []) ++ kindText k ++ (9 ∷ [])) (now (out .exit)) r ⌝ }
 {
-    let at = put_byte(out, at, b'\t');
-    let at = hex(out, at, irq);
-    put_byte(out, at, b'\n')
+    match k {
+        SyncKind::Normal => put8(out, at, b"pulse\tN\t"),
+        SyncKind::Alarm => put8(out, at, b"pulse\tA\t"),
+    }
+}
+
+// A row's answer and detail, each with its tab.
+fn answer(out: &mut [u8], at: usize, a: Answer, sent: &[u8]) -> usize
+    requires { ⌜ (at + 34 ≤ length (now out)) × (length (now sent) ≤ 14) ⌝ }
+    ensures { λ r. ⌜ Put (now (out .entry)) at (wordText (wordOf a) ++ (9 ∷ []) ++ detailText (detailOf a (now (sent .entry))) ++ (9 ∷ [])) (now (out .exit)) r ⌝ }
+{
+    match a {
+        Answer::Ok => put5(out, at, b"ok\t-\t"),
+        Answer::Value(v) => {
+            let at = put5(out, at, b"read\t");
+            hex_field(out, at, v, b'\t')
+        }
+        Answer::Stored(n) => {
+            let at = put7(out, at, b"stored\t");
+            hex_field(out, at, n, b'\t')
+        }
+        Answer::Queued(n) => {
+            let at = put7(out, at, b"queued\t");
+            hex_field(out, at, n, b'\t')
+        }
+        Answer::HeldOff(n) => {
+            let at = put8(out, at, b"heldoff\t");
+            hex_field(out, at, n, b'\t')
+        }
+        Answer::Sent(_) => {
+            let at = put5(out, at, b"sent\t");
+            frame_field(out, at, sent)
+        }
+        Answer::Pulse(k) => pulse(out, at, k),
+        Answer::Refused(r) => {
+            let at = put8(out, at, b"refused\t");
+            hex_field(out, at, r, b'\t')
+        }
+        Answer::Overrun => {
+            let at = put7(out, at, b"overrun");
+            put3(out, at, b"\t-\t")
+        }
+        Answer::Unmatched => {
+            let at = put9(out, at, b"unmatched");
+            put3(out, at, b"\t-\t")
+        }
+        Answer::BadFrame => {
+            let at = put8(out, at, b"badframe");
+            put3(out, at, b"\t-\t")
+        }
+        Answer::Ignored => {
+            let at = put7(out, at, b"ignored");
+            put3(out, at, b"\t-\t")
+        }
+        Answer::Woke => put7(out, at, b"woke\t-\t"),
+        Answer::NotSent => {
+            let at = put7(out, at, b"notsent");
+            put3(out, at, b"\t-\t")
+        }
+    }
 }
 
 // The row of a step.
-pub(crate) fn row(out: &mut [u8], at: usize, n: u32, a: Answer, sent: &[u8], irq: u8) -> usize
+pub(crate) fn row(out: &mut [u8], at: usize, x: Number, a: Answer, sent: &[u8], irq: u8) -> usize
     requires { ⌜ (at + 64 ≤ length (now out)) × (length (now sent) ≤ 14) ⌝ }
-    ensures { λ r. ⌜ Put (now (out .entry)) at (rowOf n (wordOf a) (detailOf a (now (sent .entry))) irq) (now (out .exit)) r ⌝ }
+    ensures { λ r. ⌜ Put (now (out .entry)) at (numberedRow x (wordText (wordOf a)) (detailText (detailOf a (now (sent .entry)))) irq) (now (out .exit)) r ⌝ }
 {
-    let at = start(out, at, n, a);
-    let at = detail(out, at, a, sent);
-    end(out, at, irq)
+    let at = number(out, at, x);
+    let at = answer(out, at, a, sent);
+    hex_field(out, at, irq, b'\n')
 }
 
 // The row of a line that is no step.
-pub(crate) fn unread(out: &mut [u8], at: usize, n: u32, irq: u8) -> usize
+pub(crate) fn unread(out: &mut [u8], at: usize, x: Number, irq: u8) -> usize
     requires { ⌜ at + 64 ≤ length (now out) ⌝ }
-    ensures { λ r. ⌜ Put (now (out .entry)) at (unreadRow n irq) (now (out .exit)) r ⌝ }
+    ensures { λ r. ⌜ Put (now (out .entry)) at (numberedRow x unreadText (45 ∷ []) irq) (now (out .exit)) r ⌝ }
 {
-    let at = decimal(out, at, n);
-    let at = put(out, at, b"\tunread\t-");
-    end(out, at, irq)
+    let at = number(out, at, x);
+    let at = put9(out, at, b"unread\t-\t");
+    hex_field(out, at, irq, b'\n')
 }

@@ -1,30 +1,33 @@
 use native.Mathlib.Omega.{arith}
-use Rattle.report.specs.Laws.{then, unread-parts, length-decimal}
+use mathlib.Core.Path.{refl}
+use mathlib.Core.List.{[], _∷_}
+use Rattle.report.specs.Text.{unreadText}
+use Rattle.report.specs.NumberLaws.{length-number, row-over}
 use borrow.Author.Needs.{needs}
 use Rattle.report.proofs.texts.unread.Statement.{statement}
 use Rattle.report.proofs.texts.unread.Tie as tie
 
-decimal-requires : tie.Need-decimal-requires
-decimal-requires c κs = search needs
+number-requires : tie.Need-number-requires
+number-requires c κs = search needs
 
-slice-aggregate-put : tie.Need-slice-aggregate-put
-slice-aggregate-put c = search needs
+put9-requires : tie.Need-put9-requires
+put9-requires c κs = (omega (arith, length-number (c .before .before .before .before .before .before .before .args .x)), refl)
 
-put-requires : tie.Need-put-requires
-put-requires c κs = omega (arith, length-decimal (c .before .before .before .before .before .before .before .args .n))
-
-end-requires : tie.Need-end-requires
-end-requires c κs = omega (arith, length-decimal (c .before .before .before .before .before .before .before .before .before .before .before .args .n))
+hex-field-requires : tie.Need-hex-field-requires
+hex-field-requires c κs = omega (arith, length-number (c .before .before .before .before .before .before .before .before .before .before .before .args .x))
 
 same-length : tie.Need-same-length
 same-length c = search needs
 
 returns : tie.Need-returns
+unfolding unreadText
 returns c =
-    rw unread-parts
-    (then (then (c .before .before .before .before .before .before .before .before .before .before .before .decimal .ensures) (c .before .before .before .before .before .before .put .ensures)) (c .before .before .end .ensures))
+    let s = c .before .before .before .before .before .before .before .before .before .before .before .before .before .before .args in
+    row-over (s .x) unreadText (45 ∷ []) (s .irq) (omega arith)
+    (c .before .before .before .before .before .before .before .before .before .before .before .number .ensures)
+    (c .before .before .before .before .before .before .put9 .ensures)
+    (c .before .before .hex-field .ensures)
 
 pub unread-spec : {M : Type 1} → statement M
 unread-spec =
-    tie.close
-    (tie.spec decimal-requires slice-aggregate-put put-requires end-requires same-length returns)
+    tie.close (tie.spec number-requires put9-requires hex-field-requires same-length returns)

@@ -1,8 +1,8 @@
 use Rattle.masks.specs.Pick.{pick}
 use Rattle.report.specs.Text.{widthOf}
 use borrow.Author.Tests.{lt-ltb, le-ltb}
-use Rattle.report.proofs.texts.width.Statement.{statement}
-use Rattle.report.proofs.texts.width.Tie as tie
+use Rattle.report.proofs.width.Statement.{statement}
+use Rattle.report.proofs.width.Tie as tie
 
 returns : tie.Need-returns
 unfolding widthOf pick

@@ -5,8 +5,8 @@ use lib.ListN.{length, take}
 use native.Mathlib.Omega.{arith}
 use mathlib.Core.Path.{_≡_, refl, ap, _∙_}
 use Prim.Native.Nat.{_-_, _≤_}
-use Rattle.report.proofs.texts.put.Statement.{statement}
-use Rattle.report.proofs.texts.put.Tie as tie
+use Rattle.report.proofs.puts.put.Statement.{statement}
+use Rattle.report.proofs.puts.put.Tie as tie
 
 abbrev Inv-loop : tie.InvT-loop
 Inv-loop out₀ at s i₀ out i = (i ≤ length s) × (out ≡ sets out₀ at (take i s))

@@ -1,0 +1,35 @@
+use native.Mathlib.Omega.{arith}
+use lib.ListN.{length-set}
+use Rattle.report.specs.Laws.{stores, stores-put}
+use borrow.Author.Needs.{needs}
+use Rattle.report.proofs.puts.put7.Statement.{statement}
+use Rattle.report.proofs.puts.put7.Tie as tie
+
+pub put7-spec : {M : Type 1} → statement M
+unfolding stores
+put7-spec =
+    tie.close
+    (tie.spec
+    (λ c. search needs)
+    (λ c. search needs)
+    (λ c. search needs)
+    (λ c. search needs)
+    (λ c. simp length-set (omega arith))
+    (λ c. search needs)
+    (λ c. search needs)
+    (λ c. simp length-set (omega arith))
+    (λ c. search needs)
+    (λ c. search needs)
+    (λ c. simp length-set (omega arith))
+    (λ c. search needs)
+    (λ c. search needs)
+    (λ c. simp length-set (omega arith))
+    (λ c. search needs)
+    (λ c. search needs)
+    (λ c. simp length-set (omega arith))
+    (λ c. search needs)
+    (λ c. search needs)
+    (λ c. simp length-set (omega arith))
+    (λ c. search needs)
+    (λ c. simp length-set)
+    (λ c. stores-put 6 _ _ _ (c .before .before .before .before .before .before .before .pre .1)))
