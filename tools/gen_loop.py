@@ -7,15 +7,15 @@ REFS=["c","room","piece","out"]
 kap=lambda n:"κ" if n=="c" else f"κ-{n}"
 q=lambda n:"q" if n=="c" else f"q-{n}"
 tok=lambda n:f"‵ (flft {kap(n)} {q(n)})"
-LT=["turn-ty","tyRef (named 0) mut rec-ty","sliceTy (tyRef (named 1) mut byte)","sliceTy (tyRef (named 2) imm byte)","word","sliceTy (tyRef (named 3) mut byte)","turn-ty","turn-ty","tyBool",
+LT=["turn-ty","tyRef (named 0) mut rec-ty","sliceTy (tyRef (named 1) mut byte)","sliceTy (tyRef (named 2) imm byte)","sliceTy (tyRef (named 3) mut byte)","turn-ty","turn-ty","tyBool",
     "tyRef erased mut rec-ty","tyRef erased mut byte","sliceTy (tyRef erased mut byte)","tyRef erased mut byte","sliceTy (tyRef erased mut byte)"]
 N=len(LT); CELLS=[f"_{i}" for i in range(N)]; DIES=[f"d{i}" for i in range(N)]
-PS="h room piece end out start"; PT="(h : Controller) (room piece : List ℕ) (end : ℕ) (out : List ℕ) (start : Turn)"
+PS="h room piece out start"; PT="(h : Controller) (room piece out : List ℕ) (start : At)"
 RoomI=lambda k,d,zs,m:f"Room′ {par(k)} {d} {par(zs)} {par(m)}"
 OutI=lambda k,d,zs,m:f"Out′ {par(k)} {d} {par(zs)} {par(m)}"
 held=["rec","tok","room","t-room","piece","t-piece","out","t-out"]
 EX={"rec":"‵ (Rec κ γ (s .c))","tok":tok("c"),"room":f"‵ ({RoomI('κ-room','γ-room','s .zs','(length (s .zs))')})","t-room":tok("room"),"piece":"‵ Piece","t-piece":tok("piece"),"out":f"‵ ({OutI('κ-out','γ-out','s .os','(length (s .os))')})","t-out":tok("out")}
-val={1:"vptr b o",2:"s-room (length (s .zs))",3:"s-piece",4:"vint w64 end",5:"s-out (length (s .os))",6:Tur.val("start"),7:Tur.val("s .t")}
+val={1:"vptr b o",2:"s-room (length (s .zs))",3:"s-piece",4:"s-out (length (s .os))",5:Tur.val("start"),6:Tur.val("s .t")}
 def item(l):
     if l in EX: return EX[l]
     i=int(l[1:]); t=par(LT[i])
@@ -30,29 +30,29 @@ def joins(w,toks):
     for x in reversed(toks): w.to([x,"Z"]); w.emit("join ! $ "); w.give(2,["Z"])
 joins(w,["tok","t-room","t-piece","t-out"]); w.emit("frame ! $\n"); w.give(1,[])
 def fj(w,x): w.to([x,"X"]); w.emit("fjoin ! $ "); w.give(2,["X"])
-w.emit("nothing ! $ "); w.give(0,["X"]); w.emit(Tur.owned("start","start-is")+"fjoin ! $ "); fj(w,"out"); w.emit(uint_owned("usize","end","end-fits")+"fjoin ! $ ")
+w.emit("nothing ! $ "); w.give(0,["X"]); w.emit(Tur.owned("start","start-is")+"fjoin ! $ "); fj(w,"out")
 for x in ("piece","room","rec"): fj(w,x)
 w.emit("frame ! $ "+Tur.owned("s .t","s .t-is")+"done !")
 exits=w.text()
 # ---- what the call asks
 w=Walk(10); w.ctx=["ν","ν′","t-piece","ν″","rec","room","piece","out"]; joins(w,["ν","ν′","t-piece","ν″"])
-w.emit("nothing ! $ "); w.give(0,["X"]); w.emit(Tur.owned("s .t","s .t-is")+"fjoin ! $ "); fj(w,"out"); w.emit(uint_owned("usize","end","end-fits")+"fjoin ! $ ")
+w.emit("nothing ! $ "); w.give(0,["X"]); w.emit(Tur.owned("s .t","s .t-is")+"fjoin ! $ "); fj(w,"out")
 for x in ("piece","room","rec"): fj(w,x)
 w.to(["Z","X"]); w.emit("join ! $ nothing ! $ move ! (1 ∷ 0 ∷ []) $ join ! $ done !")
 asked=w.text()
 # ---- the turn that leaves
 w=Walk(8); w.ctx=held+CELLS+DIES
 def test(w,how):
-    w.assign(f"(of-opd ! {w.part(7,5)})",8,"(tt, tt)")
-    w.emit(f"rewrite ! {w.cell(8)} (λ (y : Bool). ‵ (fat fullShare tyBool l8 0 (vbool y))) d refl $ {how} ! {w.load(8)} $ ")
+    w.assign(f"(of-opd ! {w.part(6,6)})",7,"(tt, tt)")
+    w.emit(f"rewrite ! {w.cell(7)} (λ (y : Bool). ‵ (fat fullShare tyBool l7 0 (vbool y))) d refl $ {how} ! {w.load(7)} $ ")
 test(w,"leaves-loop"); w.emit("exec ! C Λ En pieces.t-3 (atRet En Post) $\n")
-w.copy(7,0,Tur.typed("s .t","s .t-is"))
-w.emit(f"returns ! (look ! {w.cell(0)} refl) $ "); w.free(N,range(0,9)); w.keep(held); w.emit("by ! (exits s d)")
+w.copy(6,0,Tur.typed("s .t","s .t-is"))
+w.emit(f"returns ! (look ! {w.cell(0)} refl) $ "); w.free(N,range(0,8)); w.keep(held); w.emit("by ! (exits s d)")
 ends=w.text()
 # ---- a turn that goes on
 w=Walk(8); w.ctx=held+CELLS+DIES
 test(w,"stays"); w.nl()
-w.again_ref(1,9); w.again(2,10,11,"(now-room s)"); w.again(5,12,13,"(now-out s)")
+w.again_ref(1,8); w.again(2,9,10,"(now-room s)"); w.again(4,11,12,"(now-out s)")
 w.emit("-- the record is lent again for ν, the room for ν′, and the rows' room for ν″\nlft-new ! tt (λ ν. "); w.give(0,["ν"]); w.to(["rec","tok"])
 w.emit("use2 W (later (some (λ (δ : GName). ‵ (Rec (ν ∷ []) δ (s .c)) ⊛ ‵ (LentAgain T.the-row κ (ν ∷ []) q γ b o δ (s .c))))) (lends-again 𝓤 H A W T.the-row (named 0) κ (ν ∷ []) q γ b o (named 0) (s .c)) $ await ! tt $ pick ! (λ δ. split ! $\n"); w.give(2,["rec′","kept"])
 def lends(w,nu,d,n,I,x,k):
@@ -62,13 +62,13 @@ lends(w,"ν′","δ′","room",RoomI,"s .zs",1); lends(w,"ν″","δ″","out",O
 w.to(["piece"]); w.emit("use1 W (‵ Piece ⊛ ‵ Piece) (shr-slice-copy 𝓤 H A W (named 2) κ-piece u8 .twice piece-ref (s-piece ∷ [])) $ split ! $\n"); w.give(1,["piece","piece′"])
 NU="s ν ν′ ν″ δ δ′ δ″"
 w.to(["ν","ν′","t-piece","ν″","rec′","room′","piece′","out′"]); w.emit(f"group ! 8 $ use1 W (raw (Line 𝓤 H A at-mem run .pre (to {NU}))) (asked {NU}) $\n"); w.give(8,["pre"])
-w.emit(f"calls-at-last ! (fmOf 𝓤 H (W .laws) 𝓣) (Line 𝓤 H A at-mem run) known (to {NU}) {w.ops([w.load(9),w.load(11),w.load(3),w.load(4),w.load(13),w.load(7)])} (λ v.\n")
+w.emit(f"calls-at-last ! (fmOf 𝓤 H (W .laws) 𝓣) (Line 𝓤 H A at-mem run) known (to {NU}) {w.ops([w.load(8),w.load(10),w.load(3),w.load(12),w.load(6)])} (λ v.\n")
 KS="(ν ∷ [], (ν′ ∷ [], (κ-piece, (ν″ ∷ [], tt))))"; AR=f"(args {NU})"
-w.emit(f"use1 W (later (some (λ (r : Turn). ((‵ (flft (ν ∷ []) fullShare) ⊛ ‵ (flft (ν′ ∷ []) fullShare) ⊛ ‵ (flft κ-piece q-piece) ⊛ ‵ (flft (ν″ ∷ []) fullShare) ⊛ ‵ ftrue) ⊛ ‵ (U.the-row .own r (v ∷ []))) ⊛ raw (ensured 𝓤 H A line.ended (line.clauses 𝓤 H A at-mem run) {KS} {AR} tt r)))) (id⊢ 𝓤 _) $ await ! tt $ pick ! (λ r.\n")
-C_,ZS,OS="ws .0","ws .1 .0","ws .1 .1 .1 .1 .0"
+w.emit(f"use1 W (later (some (λ (r : At). ((‵ (flft (ν ∷ []) fullShare) ⊛ ‵ (flft (ν′ ∷ []) fullShare) ⊛ ‵ (flft κ-piece q-piece) ⊛ ‵ (flft (ν″ ∷ []) fullShare) ⊛ ‵ ftrue) ⊛ ‵ (U.the-row .own r (v ∷ []))) ⊛ raw (ensured 𝓤 H A line.ended (line.clauses 𝓤 H A at-mem run) {KS} {AR} tt r)))) (id⊢ 𝓤 _) $ await ! tt $ pick ! (λ r.\n")
+C_,ZS,OS="ws .0","ws .1 .0","ws .1 .1 .1 .0"
 SA=f"Said {PS} s ({C_}) r ({ZS}) ({OS})"
 w.emit(f"split ! $ move ! (1 ∷ []) $ use1 W (some (λ (ws : Lasts line.ended {KS} {AR}). ‵ (lasts line.ended {KS} {AR} ws) ⊛ raw (fact 𝓤 ({SA})))) (id⊢ 𝓤 _) $ pick ! (λ ws.\n")
-w.emit(f"split ! $ move ! (1 ∷ []) $ heard ! ({SA}) (λ e. fsplit ! $ move ! (1 ∷ []) $ fsplit ! $ fsplit ! $ move ! (1 ∷ []) $ feqL ! (λ l. move ! (1 ∷ []) $ fsplit ! $ let-go ! $ fsplit ! $ let-go ! $ fsplit ! $ fsplit ! $ move ! (1 ∷ []) $ feqL ! (λ l′.\n"); w.give(1,["fin-out","rest","fin-room","last","res"])
+w.emit(f"split ! $ move ! (1 ∷ []) $ heard ! ({SA}) (λ e. fsplit ! $ move ! (1 ∷ []) $ fsplit ! $ fsplit ! $ move ! (1 ∷ []) $ feqL ! (λ l. move ! (1 ∷ []) $ fsplit ! $ let-go ! $ fsplit ! $ fsplit ! $ move ! (1 ∷ []) $ feqL ! (λ l′.\n"); w.give(1,["fin-out","rest","fin-room","last","res"])
 w.to(["res"]); w.emit("split ! $ "); w.give(1,["toks","own"]); w.to(["own"])
 w.emit(Tur.peeks("r","(v ∷ [])")+"(λ is. let-go ! $ split ! $ "+"move ! (1 ∷ []) $ split ! $ "*3+"\n"); w.give(2,["ν″","true","t-piece","ν′","ν"])
 def back(w,nu,d,n,I,x,z,k,room,l):
@@ -77,28 +77,28 @@ def back(w,nu,d,n,I,x,z,k,room,l):
 back(w,"ν″","δ″","out",OutI,"s .os",OS,3,"(now-out s)","l′"); back(w,"ν′","δ′","room",RoomI,"s .zs",ZS,1,"(now-room s)","l")
 w.to(["ν"]); w.emit("lft-end ! tt $ "); w.to(["ν","kept","last"])
 w.emit(f"use3 W (later (‵ (Rec κ γ ({C_})) ⊛ ‵ (flft κ q))) (comes-back 𝓤 H A W T.the-row (named 0) κ (ν ∷ []) q γ b o δ (s .c) ({C_})) $ await ! tt $ split ! $\n"); w.give(3,["rec","tok"])
-w.land(7,"turn-ty",Tur.typed("r","is"),Tur.same("r","is"),"store",True)
+w.land(6,"turn-ty",Tur.typed("r","is"),Tur.same("r","is"),"store",True)
 w.emit(f"rewrite ! {w.at('room')} (λ (m : ℕ). ‵ ({RoomI('κ-room','γ-room',ZS,'m')})) (sym l) refl $ rewrite ! {w.cell(2)} (λ (m : ℕ). ‵ (fat fullShare {par(LT[2])} l2 0 (s-room m))) (sym l) refl $\n")
-w.emit(f"rewrite ! {w.at('out')} (λ (m : ℕ). ‵ ({OutI('κ-out','γ-out',OS,'m')})) (sym l′) refl $ rewrite ! {w.cell(5)} (λ (m : ℕ). ‵ (fat fullShare {par(LT[5])} l5 0 (s-out m))) (sym l′) refl $\n")
-for i in range(8,14): w.emit(f"forget ! {w.cell(i)} refl $ ")
+w.emit(f"rewrite ! {w.at('out')} (λ (m : ℕ). ‵ ({OutI('κ-out','γ-out',OS,'m')})) (sym l′) refl $ rewrite ! {w.cell(4)} (λ (m : ℕ). ‵ (fat fullShare {par(LT[4])} l4 0 (s-out m))) (sym l′) refl $\n")
+for i in range(7,13): w.emit(f"forget ! {w.cell(i)} refl $ ")
 w.nl(); w.keep(held+CELLS+DIES)
-w.emit(f"again ! (≺ {PS}) I s (next-state {PS} s ({C_}) r ({ZS}) ({OS}) d e l l′ (turn-is r _ is)) (steps-nearer d e)")
+w.emit(f"again ! (≺ {PS}) I s (next-state {PS} s ({C_}) r ({ZS}) ({OS}) d e l l′ (turn-is r _ is)) (turns-nearer d e)")
 more=w.text()
 # ---- the walk's start
 w=Walk(6); w.ctx=["toks","owns"]
 w.emit("split ! $ "+"move ! (1 ∷ []) $ split ! $ "*3); w.ctx=["t-out","true","t-piece","t-room","tok","owns"]
 w.to(["owns"])
-for n in ["rec","room","piece",None,"out",None]:
+for n in ["rec","room","piece","out",None]:
     w.emit("fsplit ! $ ")
     if n: w.emit("move ! (1 ∷ []) $ "); w.give(1,["owns",n])
     else: w.emit("let-go ! $ ")
 w.keep(held); w.nl()
-FV=lst(["vptr b o","s-room (length room)","s-piece","vint w64 end","s-out (length out)",Tur.val("start")])
+FV=lst(["vptr b o","s-room (length room)","s-piece","s-out (length out)",Tur.val("start")])
 w.emit(f"enter ! (𝓣 .C) (𝓣 .Λ) code.function {FV} _ $\n"+"".join(f"alloc1 ! (λ l{i}. " for i in range(N))+"alloc0 ! $ params1 ! $\n")
 w.ctx=[x for i in range(N-1,-1,-1) for x in (f"_{i}",f"d{i}")]+w.ctx
-typ={1:"(tt, tt)",2:"(tt, (tt, (record { fits = room-room .0 }, tt)))",3:"(tt, (tt, (record { fits = piece-room .0 }, tt)))",4:"(tt, record { fits = end-fits })",5:"(tt, (tt, (record { fits = out-room .0 }, tt)))",6:Tur.typed("start","start-is")}
-for i in range(1,7): w.emit(f"pass1 ! (init ! {w.cell(i)} refl {typ[i]}) $ ")
-w.emit("pass0 ! $\n"); w.copy(6,7,Tur.typed("start","start-is"))
+typ={1:"(tt, tt)",2:"(tt, (tt, (record { fits = room-room .0 }, tt)))",3:"(tt, (tt, (record { fits = piece-room .0 }, tt)))",4:"(tt, (tt, (record { fits = out-room .0 }, tt)))",5:Tur.typed("start","start-is")}
+for i in range(1,6): w.emit(f"pass1 ! (init ! {w.cell(i)} refl {typ[i]}) $ ")
+w.emit("pass0 ! $\n"); w.copy(5,6,Tur.typed("start","start-is"))
 w.to(held+CELLS+DIES); w.emit("looped 𝓣 known "+" ".join(f"l{i}" for i in range(N)))
 walk=w.text()
 # ---- the file
@@ -107,8 +107,8 @@ kp=lambda i,s="κs":f"{s}{path(i)}"
 wargs=[f"({kp(i)})" for i in range(4)]+[f"({kp(i,'qs')})" for i in range(4)]
 pa=lambda i:"a"+path(i)
 ar=lambda i:"are"+path(i)
-for i in (0,1,2,3,4,5): wargs.append(f"({pa(i)} .ptr .0) ({pa(i)} .ptr .1) ({pa(i)} .name) ({pa(i)} .now)" if i in (0,1,2,4) else f"({pa(i)})")
-wargs+=[f"({ar(1)} .0 .1)",f"({ar(2)} .0 .1)",f"({ar(3)} .1)",f"({ar(4)} .0 .1)",f"({ar(5)})"]
+for i in range(5): wargs.append(f"({pa(i)} .ptr .0) ({pa(i)} .ptr .1) ({pa(i)} .name) ({pa(i)} .now)" if i<4 else f"({pa(i)})")
+wargs+=[f"({ar(1)} .0 .1)",f"({ar(2)} .0 .1)",f"({ar(3)} .0 .1)",f"({ar(4)})"]
 BOUND=f"(({tup(kap(n) for n in REFS)}, {tup(q(n) for n in REFS)}, tt, a, at), tt)"
 SQ="Sq W (I s) (runs C Λ En pieces.turn-1 (anyQ (afterTurn 𝓤 H (Below 𝓤 H A (≺ "+PS+") I s) Left)))"
 print(f'''-- `replaying::piece_loop::lines_in_place` meets its contract: a walk of its MIR with a loop. A turn lends the record, the room and the rows' room again, each for a lifetime that is made for the call, calls `line_in_place`, and has them back.
@@ -141,8 +141,7 @@ use sound.WpLaws.{{fmOf, WpFn-mono}}
 use denote.RattleType.{{owns}}
 use denote.Laws.{{Is, shows}}
 use denote.Memory.{{pointee}}
-use denote.Plain.{{uint-vals, uint-tells, uint-makes}}
-use denote.Builtin.{{u8, usize}}
+use denote.Builtin.{{u8}}
 use denote.Ref.{{RefT, MutRef, ptr-vals, mut-tells}}
 use denote.Slice.{{sliceTy, sliceVal, ShrSlice, MutSlice, Room, slice-vals, shr-slice-tells, mut-slice-tells, shr-slice-copy}}
 use denote.Signature.{{plain}}
@@ -157,13 +156,11 @@ use denote.Triple.Clauses.{{ensured, lasts, Lasts}}
 use denote.Triple.Table.{{entered, cited}}
 use denote.Triple.Walked.{{says, Stays, stay-ref, stay-none, stay-none-slice, stay-slice, walkOf, AllGo, goes-none, goes-none-slice, goes-slice, goes-ref, Walks, ends-at, walked, walk-meets}}
 use denote.Exit.{{yes}}
-use {spec}.CodeTurn.{{left, Steps, Played}}
-use {spec}.TurnLaws.{{steps-nearer, played-none, played-more, played-all}}
+use {spec}.CodeLoop.{{left, Turns, Played}}
+use {spec}.LoopLaws.{{turns-nearer, played-none, played-more, played-all}}
 {Con.uses(False)}
 {Tur.uses()}
-use {modp}.Tally.Laws as Tally-row′
-use Rattle.controller.proofs.Call.Laws as Call-row′
-use Rattle.lines.proofs.FrameBytes.Laws as Frame-row′
+{TURN_USES}
 use {modp}.Again as Sl
 use {modp}.piece_loop.line_in_place as line
 use {modp}.piece_loop.line_in_place.Symbol as line-def
@@ -176,16 +173,16 @@ use {modp}.piece_loop.lines_in_place.Code as code
 use {modp}.piece_loop.lines_in_place.Code.Mir as pieces
 
 abbrev Arg : Type 0
-Arg = RefT Controller × (RefT (List ℕ) × (RefT (List ℕ) × (ℕ × (RefT (List ℕ) × (Turn × Unit {{0}})))))
+Arg = RefT Controller × (RefT (List ℕ) × (RefT (List ℕ) × (RefT (List ℕ) × (At × Unit {{0}}))))
 
 abbrev stayed : Stays (this.ended .signature .params) (this.ended .kept)
-stayed = (stay-ref (0 ∷ []) tt (plain (λ _. T.the-row)), (stay-slice (1 ∷ []) tt (plain (λ _. u8)), (stay-none-slice (2 ∷ []) tt (plain (λ _. u8)) yes, (stay-none (λ _. usize) yes, (stay-slice (3 ∷ []) tt (plain (λ _. u8)), (stay-none (λ _. U.the-row) yes, tt))))))
+stayed = (stay-ref (0 ∷ []) tt (plain (λ _. T.the-row)), (stay-slice (1 ∷ []) tt (plain (λ _. u8)), (stay-none-slice (2 ∷ []) tt (plain (λ _. u8)) yes, (stay-slice (3 ∷ []) tt (plain (λ _. u8)), (stay-none (λ _. U.the-row) yes, tt)))))
 
 -- the contract that the proof cites
 abbrev Line : {G} (mem : Memory → SProp 𝓤) (run : Routine → Fun 𝓤) → Contract 𝓤
 Line 𝓤 H A mem run = tripleOf 𝓤 H A line.signature (line.spec 𝓤 H A mem run)
 
--- the types of the locals; that of `Turn` has its fields' types by name, so that a field's type is found with nothing computed
+-- the types of the locals; that of `At` has its fields' types by name, so that a field's type is found with nothing computed
 {TYPES}
 
 {TURN_TYPE}
@@ -195,7 +192,7 @@ Line 𝓤 H A mem run = tripleOf 𝓤 H A line.signature (line.spec 𝓤 H A mem
 
 -- where the loop stands, the record and the two rooms so far
 record State {PT} : Type 0 where
-  pub t : Turn
+  pub t : At
   pub c : Controller
   pub zs : List ℕ
   pub os : List ℕ
@@ -205,19 +202,19 @@ record State {PT} : Type 0 where
   pub t-is : {Tur.is_("t")}
 
 abbrev ≺ : {PT} → State {PS} → State {PS} → Type 0
-≺ {PS} s′ s = left end (s′ .t) < left end (s .t)
+≺ {PS} s′ s = left (length piece) (s′ .t) < left (length piece) (s .t)
 
 abbrev first-state : {PT} → {Tur.is_("start")} → State {PS}
-first-state {PS} g = record {{ t = start; c = h; zs = room; os = out; played = played-none h room piece end out start; same = refl; same′ = refl; t-is = g }}
+first-state {PS} g = record {{ t = start; c = h; zs = room; os = out; played = played-none h room piece out start; same = refl; same′ = refl; t-is = g }}
 
 -- what `line_in_place` ensures of a call at s
-abbrev Said : {PT} → State {PS} → Controller → Turn → List ℕ → List ℕ → Type 0
-Said {PS} s c r zs os = Steps (s .c) (s .zs) piece end (s .os) (s .t) r c zs os
+abbrev Said : {PT} → State {PS} → Controller → At → List ℕ → List ℕ → Type 0
+Said {PS} s c r zs os = Turns (s .c) (s .zs) piece (s .os) (s .t) r c zs os
 
-abbrev next-state : {PT} (s : State {PS}) (c : Controller) (r : Turn) (zs os : List ℕ) → s .t .due ≡ true → Said {PS} s c r zs os → length zs ≡ length (s .zs) → length os ≡ length (s .os) → {Tur.is_("r")} → State {PS}
+abbrev next-state : {PT} (s : State {PS}) (c : Controller) (r : At) (zs os : List ℕ) → s .t .more ≡ true → Said {PS} s c r zs os → length zs ≡ length (s .zs) → length os ≡ length (s .os) → {Tur.is_("r")} → State {PS}
 next-state {PS} s c r zs os d e l l′ g = record {{ t = r; c = c; zs = zs; os = os; played = played-more (s .played) d e; same = l ∙ s .same; same′ = l′ ∙ s .same′; t-is = g }}
 
-module _ {G} (W : Given 𝓤 H A) {AM} ({" ".join(kap(n) for n in REFS)} : Lft) ({" ".join(q(n) for n in REFS)} : Share) (b o : ℕ) (γ : GName) (h : Controller) (b-room o-room : ℕ) (γ-room : GName) (room : List ℕ) (b-piece o-piece : ℕ) (γ-piece : GName) (piece : List ℕ) (end : ℕ) (b-out o-out : ℕ) (γ-out : GName) (out : List ℕ) (start : Turn) (room-room : Room u8 (length room)) (piece-room : Room u8 (length piece)) (end-fits : end < 2 ^ 64) (out-room : Room u8 (length out)) (start-is : {Tur.is_("start")}) where
+module _ {G} (W : Given 𝓤 H A) {AM} ({" ".join(kap(n) for n in REFS)} : Lft) ({" ".join(q(n) for n in REFS)} : Share) (b o : ℕ) (γ : GName) (h : Controller) (b-room o-room : ℕ) (γ-room : GName) (room : List ℕ) (b-piece o-piece : ℕ) (γ-piece : GName) (piece : List ℕ) (b-out o-out : ℕ) (γ-out : GName) (out : List ℕ) (start : At) (room-room : Room u8 (length room)) (piece-room : Room u8 (length piece)) (out-room : Room u8 (length out)) (start-is : {Tur.is_("start")}) where
   abbrev S : Type 0
   S = State {PS}
 
@@ -236,10 +233,10 @@ module _ {G} (W : Given 𝓤 H A) {AM} ({" ".join(kap(n) for n in REFS)} : Lft) 
   s-out m = sliceVal (b-out, o-out) m
 
   abbrev a : Arg
-  a = (rec γ h, (room-ref γ-room room, (piece-ref, (end, (out-ref γ-out out, (start, tt))))))
+  a = (rec γ h, (room-ref γ-room room, (piece-ref, (out-ref γ-out out, (start, tt)))))
 
-  abbrev at : List Val × (List Val × (List Val × (List Val × (List Val × (List Val × Unit {{0}})))))
-  at = {tup(["vptr b o ∷ []","s-room (length room) ∷ []","s-piece ∷ []","vint w64 end ∷ []","s-out (length out) ∷ []",Tur.val("start")+" ∷ []"])}
+  abbrev at : List Val × (List Val × (List Val × (List Val × (List Val × Unit {{0}}))))
+  at = {tup(["vptr b o ∷ []","s-room (length room) ∷ []","s-piece ∷ []","s-out (length out) ∷ []",Tur.val("start")+" ∷ []"])}
 
   abbrev Post : Val → SProp 𝓤
   Post = walkOf 𝓤 H A this.ended stayed (this.clauses 𝓤 H A at-mem run) .post {BOUND}
@@ -259,19 +256,19 @@ module _ {G} (W : Given 𝓤 H A) {AM} ({" ".join(kap(n) for n in REFS)} : Lft) 
   abbrev Held : S → List (Item 𝓤) → List (Item 𝓤)
   Held s Γ = {" ∷ ".join(item(l) for l in held)} ∷ Γ
 
-  exits : (s : S) → s .t .due ≡ false → ent 𝓤 (⋆ 𝓤 H A (Held s [])) (Post ({Tur.val("s .t")}))
+  exits : (s : S) → s .t .more ≡ false → ent 𝓤 (⋆ 𝓤 H A (Held s [])) (Post ({Tur.val("s .t")}))
   exits s d =
       qed W (Held s []) ∵
-      suffices ! _ (ends-at 𝓤 H A this.ended stayed (this.clauses 𝓤 H A at-mem run) W {BOUND} ({Tur.val("s .t")}) (s .t) (s .c, (s .zs, (tt, (tt, (s .os, (tt, tt)))))) (tt, (s .same, (tt, (tt, (s .same′, (tt, tt))))))) $ says ! (played-all (s .played) d) $
+      suffices ! _ (ends-at 𝓤 H A this.ended stayed (this.clauses 𝓤 H A at-mem run) W {BOUND} ({Tur.val("s .t")}) (s .t) (s .c, (s .zs, (tt, (s .os, (tt, tt))))) (tt, (s .same, (tt, (s .same′, (tt, tt)))))) $ says ! (played-all (s .played) d) $
       {exits}
 
   -- what `line_in_place`'s triple binds outside, at the lifetimes ν, ν′ and ν″ and the names δ, δ′ and δ″, and what it asks
   module _ (s : S) (ν ν′ ν″ : ℕ) (δ δ′ δ″ : GName) where
     abbrev args : Arg
-    args = (rec δ (s .c), (room-ref δ′ (s .zs), (piece-ref, (end, (out-ref δ″ (s .os), (s .t, tt))))))
+    args = (rec δ (s .c), (room-ref δ′ (s .zs), (piece-ref, (out-ref δ″ (s .os), (s .t, tt)))))
 
     abbrev to : Line 𝓤 H A at-mem run .Ghost
-    to = (((ν ∷ [], (ν′ ∷ [], (κ-piece, (ν″ ∷ [], tt)))), (fullShare, (fullShare, (q-piece, (fullShare, tt)))), tt, args, {tup(["vptr b o ∷ []","s-room (length (s .zs)) ∷ []","s-piece ∷ []","vint w64 end ∷ []","s-out (length (s .os)) ∷ []",Tur.val("s .t")+" ∷ []"])}), tt)
+    to = (((ν ∷ [], (ν′ ∷ [], (κ-piece, (ν″ ∷ [], tt)))), (fullShare, (fullShare, (q-piece, (fullShare, tt)))), tt, args, {tup(["vptr b o ∷ []","s-room (length (s .zs)) ∷ []","s-piece ∷ []","s-out (length (s .os)) ∷ []",Tur.val("s .t")+" ∷ []"])}), tt)
 
     abbrev Asked : List (Item 𝓤)
     Asked = ‵ (flft (ν ∷ []) fullShare) ∷ ‵ (flft (ν′ ∷ []) fullShare) ∷ ‵ (flft κ-piece q-piece) ∷ ‵ (flft (ν″ ∷ []) fullShare) ∷ ‵ (Rec (ν ∷ []) δ (s .c)) ∷ ‵ (Room′ (ν′ ∷ []) δ′ (s .zs) (length (s .zs))) ∷ ‵ Piece ∷ ‵ (Out′ (ν″ ∷ []) δ″ (s .os) (length (s .os))) ∷ []
@@ -297,38 +294,38 @@ module _ {G} (W : Given 𝓤 H A) {AM} ({" ".join(kap(n) for n in REFS)} : Lft) 
     Left = afterBlock 𝓤 H (afterSeq 𝓤 H (Wp 𝓤 H C Λ En pieces.t-3 (atReturn 𝓤 H En Post)) (atReturn 𝓤 H En Post))
 
     -- the turn that leaves the loop, and the rest of the body
-    ends : (s : S) → s .t .due ≡ false → {SQ}
+    ends : (s : S) → s .t .more ≡ false → {SQ}
     unfolding afterTurn
     ends s d =
         {ends}
 
     -- a turn that goes on
-    more : (s : S) → s .t .due ≡ true → {SQ}
+    more : (s : S) → s .t .more ≡ true → {SQ}
     unfolding afterTurn
     more s d =
         {more}
 
-    turn : (s : S) (y : Bool) → s .t .due ≡ y → {SQ}
+    turn : (s : S) (y : Bool) → s .t .more ≡ y → {SQ}
     turn s true d = more s d
     turn s false d = ends s d
 
     -- the loop, and what follows it
     looped : Sq W (I (first-state {PS} start-is)) (runs C Λ En pieces.t-2 (atRet En Post))
-    looped = first ! $ blocks ! $ loops ! 𝓣 (≺ {PS}) (InvImage·wf (λ (s : S). left end (s .t)) (Nat·lt-wfRel .wf)) I (λ s. turn s (s .t .due) refl) (first-state {PS} start-is)
+    looped = first ! $ blocks ! $ loops ! 𝓣 (≺ {PS}) (InvImage·wf (λ (s : S). left (length piece) (s .t)) (Nat·lt-wfRel .wf)) I (λ s. turn s (s .t .more) refl) (first-state {PS} start-is)
 
   walk : (𝓣 : Tables 𝓤 H) (known : Triple 𝓤 (𝓣 .C #line) (Line 𝓤 H A at-mem run)) → ent 𝓤 (onEntry 𝓤 H A this.signature {tup(kap(n) for n in REFS)} {tup(q(n) for n in REFS)} a at) (WpFn 𝓤 H (𝓣 .C) (𝓣 .Λ) code.function {FV} Post)
   walk 𝓣 known =
-      qed W (({" ⊛ ".join([tok(n) for n in REFS]+["‵ ftrue"])}) ∷ ‵ (owns (MutRef (named 0) κ T.the-row ∷ MutSlice (named 1) κ-room u8 ∷ ShrSlice (named 2) κ-piece u8 ∷ usize ∷ MutSlice (named 3) κ-out u8 ∷ U.the-row ∷ []) a at) ∷ []) ∵
+      qed W (({" ⊛ ".join([tok(n) for n in REFS]+["‵ ftrue"])}) ∷ ‵ (owns (MutRef (named 0) κ T.the-row ∷ MutSlice (named 1) κ-room u8 ∷ ShrSlice (named 2) κ-piece u8 ∷ MutSlice (named 3) κ-out u8 ∷ U.the-row ∷ []) a at) ∷ []) ∵
       {walk}
 
 module _ {G} (W : Given 𝓤 H A) {AM} where
   walks : (𝓣 : Tables 𝓤 H) → Triple 𝓤 (𝓣 .C #line) (Line 𝓤 H A at-mem run) → Walks 𝓤 H A this.ended stayed (WpFn 𝓤 H (𝓣 .C) (𝓣 .Λ) code.function) (this.clauses 𝓤 H A at-mem run)
   walks 𝓣 known = walked 𝓤 H A this.ended stayed (this.clauses 𝓤 H A at-mem run) (WpFn 𝓤 H (𝓣 .C) (𝓣 .Λ) code.function)
-      (λ κs. (ptr-vals, (slice-vals, (slice-vals, (uint-vals w64, (slice-vals, ({Tur.vals()}, tt))))))) (λ κs. (mut-tells (named 0) ({kp(0)}) T.the-row, (mut-slice-tells (named 1) ({kp(1)}) u8, (shr-slice-tells (named 2) ({kp(2)}) u8, (uint-tells w64, (mut-slice-tells (named 3) ({kp(3)}) u8, ({Tur.tells()}, tt)))))))
+      (λ κs. (ptr-vals, (slice-vals, (slice-vals, (slice-vals, ({Tur.vals()}, tt)))))) (λ κs. (mut-tells (named 0) ({kp(0)}) T.the-row, (mut-slice-tells (named 1) ({kp(1)}) u8, (shr-slice-tells (named 2) ({kp(2)}) u8, (mut-slice-tells (named 3) ({kp(3)}) u8, ({Tur.tells()}, tt))))))
       (λ κs qs bounds a g are. via 𝓤 _ (fst∗ 𝓤 _ (emp 𝓤)) (walk 𝓤 H A W at-mem run {" ".join(wargs)} 𝓣 known))
 
   goes : AllGo 𝓤 H A W 4 (this.signature .params) (this.ended .kept) stayed
-  goes = (goes-ref 𝓤 H A W 4 0 tt (plain (λ _. T.the-row)), (goes-slice 𝓤 H A W 4 1 tt (plain (λ _. u8)), (goes-none-slice 𝓤 H A W 4 (2 ∷ []) tt (plain (λ _. u8)) yes, (goes-none 𝓤 H A W 4 (λ _. usize) yes (λ κs x f. refl), (goes-slice 𝓤 H A W 4 3 tt (plain (λ _. u8)), (goes-none 𝓤 H A W 4 (λ _. U.the-row) yes (λ κs x f. refl), tt))))))
+  goes = (goes-ref 𝓤 H A W 4 0 tt (plain (λ _. T.the-row)), (goes-slice 𝓤 H A W 4 1 tt (plain (λ _. u8)), (goes-none-slice 𝓤 H A W 4 (2 ∷ []) tt (plain (λ _. u8)) yes, (goes-slice 𝓤 H A W 4 3 tt (plain (λ _. u8)), (goes-none 𝓤 H A W 4 (λ _. U.the-row) yes (λ κs x f. refl), tt)))))
 
 meets : {G} → Given 𝓤 H A → {AM} (𝓣 : Tables 𝓤 H) → Triple 𝓤 (𝓣 .C #line) (Line 𝓤 H A at-mem run)
     → Meets 𝓤 H A this.signature (WpFn 𝓤 H (𝓣 .C) (𝓣 .Λ) code.function) (this.spec 𝓤 H A at-mem run)

@@ -83,7 +83,7 @@ def uint_owned(k,x,p): return f"owned ! {k} (Is {k}) (uint-makes 𝓤 H A W {WID
 # ---- what the walks of crate replaying share: the declared types, and the texts that stand in more than one of them
 crate="replaying"; modp=f"Rattle.{crate}.proofs"; spec=f"Rattle.{crate}.specs"
 Con=Decl("Controller","T","struct","controller",False)
-Tur=Decl("Turn","U","struct",crate,True)
+Tur=Decl("At","U","struct",crate,True)
 G="{M : Type 1} (𝓤 : URA M) (H : Heap 𝓤) (A : Atoms 𝓤)"; AM="(at-mem : Memory → SProp 𝓤) (run : Routine → Fun 𝓤)"
 TYPES="""abbrev byte : Ty
 byte = tyInt w8
@@ -93,9 +93,11 @@ word = tyInt w64
 
 abbrev rec-ty : Ty
 rec-ty = pointee (T.the-row .written)"""
+TURN_USES=f"""use {modp}.Tally.Laws as Tally-row′
+use Rattle.report.proofs.Number.Laws as Number-row′"""
 TURN_TYPE="""abbrev turn-ty : Ty
-turn-ty = tyStruct (U.struct .name) (tcons (tyInt w32) (tcons Tally-row′.mir (tcons byte (tcons word (tcons word (tcons tyBool (tcons Call-row′.mir (tcons Frame-row′.mir tnil))))))))"""
-TURN_IS=f"""turn-is : (r : Turn) (vs : List Val) → Is U.the-row r vs → {Tur.is_("r")}
+turn-ty = tyStruct (U.struct .name) (tcons Number-row′.mir (tcons word (tcons word (tcons Tally-row′.mir (tcons (tyInt w32) (tcons byte (tcons tyBool (tcons tyBool tnil))))))))"""
+TURN_IS=f"""turn-is : (r : At) (vs : List Val) → Is U.the-row r vs → {Tur.is_("r")}
 turn-is r vs g = LL.owes U.the-type U′.the-laws r (LL.owed U.the-type U′.the-laws r vs g)"""
 REFERENCES=f"""  -- the references, under a name and at a value
   abbrev rec : GName → Controller → RefT Controller

@@ -15,9 +15,10 @@ use Rattle.rules.specs.declared.Answer.{Answer}
 use Rattle.rules.specs.declared.Answer.the-variants.{Ok, Value, Stored, Queued, HeldOff, Sent, Pulse, Refused, Overrun, Unmatched, BadFrame, Ignored, Woke, NotSent}
 use Rattle.rules.specs.AnswerLaws.{WORDS}
 use Rattle.rules.specs.Answers.{wordOf, SENT, REFUSED}
+use Rattle.rules.specs.KeptLinesLaws.{keepsLines}
 use Rattle.replaying.specs.declared.Tally.{Tally}
 use Rattle.replaying.specs.SentLaws.{sentSize, size-unsent}
-use Rattle.replaying.specs.CodeTurn.{countedOf}
+use Rattle.replaying.specs.CodeLoop.{countedOf}
 
 -- the words are numbered as the variants are declared, but for the number 5, which is unused
 abbrev lowered : Bool → ℕ → ℕ
@@ -69,3 +70,38 @@ other-size a n h = size-unsent a n (other-word (allBut SENT) SENT tt a h)
 pub other-counted : (k : Tally) (a : Answer) → OneOf (allBut REFUSED) (tagOf the-answer a) → k ≡ countedOf k a
 unfolding countedOf pick
 other-counted k a h = rw (other-word (allBut REFUSED) REFUSED tt a h) refl
+
+-- ---- which variants leave the five lines as they are
+
+abbrev keeping : List ℕ
+keeping = 1 ∷ 4 ∷ 7 ∷ 9 ∷ 11 ∷ 13 ∷ []
+
+abbrev changing : List ℕ
+changing = 0 ∷ 2 ∷ 3 ∷ 5 ∷ 6 ∷ 8 ∷ 10 ∷ 12 ∷ []
+
+by-tag : (a : Answer) → (keepsLines a ≡ hasKey keeping (tagOf the-answer a)) × (not (keepsLines a) ≡ hasKey changing (tagOf the-answer a))
+unfolding keepsLines
+by-tag Ok = (refl, refl)
+by-tag (Value v) = (refl, refl)
+by-tag (Stored n) = (refl, refl)
+by-tag (Queued n) = (refl, refl)
+by-tag (HeldOff n) = (refl, refl)
+by-tag (Sent k) = (refl, refl)
+by-tag (Pulse k) = (refl, refl)
+by-tag (Refused r) = (refl, refl)
+by-tag Overrun = (refl, refl)
+by-tag Unmatched = (refl, refl)
+by-tag BadFrame = (refl, refl)
+by-tag Ignored = (refl, refl)
+by-tag Woke = (refl, refl)
+by-tag NotSent = (refl, refl)
+
+-- a variant among ks is no key that misses
+none : (ks : List ℕ) (x : ℕ) → hasKey ks x ≡ false → OneOf ks x → ⊥
+none ks x e = miss ks x (rw e tt)
+
+pub kept-true : (a : Answer) → OneOf keeping (tagOf the-answer a) → true ≡ keepsLines a
+kept-true a h = by-test (keepsLines a) (λ t. sym t) (λ t. absurd (none keeping _ (sym (by-tag a .0) ∙ t) h))
+
+pub other-false : (a : Answer) → OneOf changing (tagOf the-answer a) → false ≡ keepsLines a
+other-false a h = by-test (keepsLines a) (λ t. absurd (none changing _ (sym (by-tag a .1) ∙ ap not t) h)) (λ t. sym t)

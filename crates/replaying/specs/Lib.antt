@@ -6,9 +6,7 @@ pub mod Runs
 -- nothing to believe: laws, and the code's own definitions
 pub mod WholeLaws
 pub mod RunLaws
-pub mod SessionLaws
-pub mod CodeTurn
-pub mod TurnLaws
-pub mod OpenLaws
-pub mod SeekLaws
 pub mod SentLaws
+pub mod CodeLoop
+pub mod LoopLaws
+pub mod SessionLaws

@@ -1,12 +1,12 @@
 -- Only a slot sends, so the frame that a row shows can be read off the room that the slot was lent.
-use Prim.Native.Nat.{ℕ, _+_, _≤_, min}
+use Prim.Native.Nat.{ℕ, zero, suc, _+_, _≤_, min}
 use native.Mathlib.Omega.{arith}
 use native.Mathlib.Nat.{min-eq-left}
 use mathlib.Core.Path.{_≡_, refl, sym, ap, _∙_}
 use mathlib.Core.Bool.{Bool, true, false, _||_, not, false≢true}
-use mathlib.Core.List.{List}
-use lib.ListN.{length, length-append, take, drop}
-use lib.Seq.{take-append-seam, take-all}
+use mathlib.Core.List.{List, _∷_, _++_}
+use lib.ListN.{length, length-append, take, drop, replicate}
+use lib.Seq.{take-append-seam, take-all, drop-at}
 use lib.Dec.{eqb, ltb, leb}
 use Rattle.masks.specs.PickLaws.{pick-keeps}
 use Rattle.contents.specs.declared.Contents.{Contents}
@@ -204,6 +204,69 @@ module _ (c : Controller) (f room : List ℕ) where
   room-size (Frame good) l = l
   room-size (Fault k) l = l
   room-size Timeout l = l
+
+-- ---- the room made clear again
+
+abbrev zeros : ℕ → List ℕ
+zeros n = replicate n 0
+
+-- the first bytes zero, as many as the answer shows
+abbrev pub clearedBy : Answer → List ℕ → List ℕ
+clearedBy a room = zeros (sentSize a (length room)) ++ drop (sentSize a (length room)) room
+
+cleared-unsent : (a : Answer) (room : List ℕ) → isSent a ≡ false → clearedBy a room ≡ room
+cleared-unsent a room s = rw (sym (size-unsent a (length room) s)) refl
+
+-- nothing is shown that isn't sent
+unsent : (e : Step) (rows : List Contents) (r : Reply) → sends r ≡ false → saysSent r ≡ false → isSent (answerOf e rows r) ≡ false
+unsent e rows (say a) q s = s
+unsent e rows (show n j) q s = refl
+unsent e rows (send n) q s = absurd (false≢true (sym q))
+
+zeros-rest : (k n : ℕ) → k ≤ n → zeros k ++ drop k (zeros n) ≡ zeros n
+zeros-rest zero n h = refl
+zeros-rest (suc k) zero h = absurd (omega arith)
+zeros-rest (suc k) (suc n) h = ap (λ (l : List ℕ). 0 ∷ l) (zeros-rest k n (omega arith))
+
+sent-cleared : (f : List ℕ) → length f ≤ 14 → (room : List ℕ) → room ≡ fillRoom f (zeros 14) →
+    zeros (min (length f) (length room)) ++ drop (min (length f) (length room)) room ≡ zeros 14
+unfolding fillRoom
+sent-cleared f h room q =
+    let l : length room ≡ length f + length (drop (length f) (zeros 14)) = ap length q ∙ length-append f (drop (length f) (zeros 14)) in
+    let m : length f ≤ length room = omega arith in
+    ap (λ (k : ℕ). zeros k ++ drop k room) (min-eq-left m)
+    ∙ ap (λ (r : List ℕ). zeros (length f) ++ drop (length f) r) q
+    ∙ ap (λ (r : List ℕ). zeros (length f) ++ r) (drop-at f (drop (length f) (zeros 14)) (length f) refl)
+    ∙ zeros-rest (length f) 14 h
+
+-- a clear room is clear again once the bytes that the answer shows are zero
+module _ (c : Controller) (f : List ℕ) where
+  abbrev answerTo : Call → Answer
+  answerTo call = stepOf c (stepFor call f (zeros 14)) .answer
+
+  quiet-cleared : (call : Call) → isSlot call ≡ false → (room : List ℕ) → clearedBy (answerTo call) room ≡ room
+  unfolding stepOf carry
+  quiet-cleared call s room =
+      cleared-unsent (answerTo call) room
+      (unsent (stepFor call f (zeros 14)) (c .rows) (replyTo c f (zeros 14) call) (quiet-call c f (zeros 14) call s) (never-says-sent (c .control) (heads (c .rows)) (hide (stepFor call f (zeros 14)))))
+
+  slot-cleared : (i : ℕ) (r : Reply) → saysSent r ≡ false →
+      clearedBy (answerOf (slot i (zeros 14)) (c .rows) r) (fillRoom (sentOf (c .rows) r) (zeros 14)) ≡ zeros 14
+  slot-cleared i (say a) s = ap (clearedBy a) (fill-none (zeros 14)) ∙ cleared-unsent a (zeros 14) s
+  slot-cleared i (show n j) s = fill-none (zeros 14)
+  slot-cleared i (send n) s = sent-cleared (frameOf (rowAt (c .rows) n)) (frame-fits (rowAt (c .rows) n)) _ refl
+
+  pub room-cleared : (call : Call) → clearedBy (answerTo call) (roomFor c call (zeros 14)) ≡ zeros 14
+  unfolding stepOf carry
+  room-cleared Reset = quiet-cleared Reset refl (zeros 14)
+  room-cleared (Read a) = quiet-cleared (Read a) refl (zeros 14)
+  room-cleared (Write a v) = quiet-cleared (Write a v) refl (zeros 14)
+  room-cleared (Sync k) = quiet-cleared (Sync k) refl (zeros 14)
+  room-cleared SyncDue = quiet-cleared SyncDue refl (zeros 14)
+  room-cleared (Slot i) = slot-cleared i (replyTo c f (zeros 14) (Slot i)) (never-says-sent (c .control) (heads (c .rows)) (hide (slot i (zeros 14))))
+  room-cleared (Frame good) = quiet-cleared (Frame good) refl (zeros 14)
+  room-cleared (Fault k) = quiet-cleared (Fault k) refl (zeros 14)
+  room-cleared Timeout = quiet-cleared Timeout refl (zeros 14)
 
 -- a sent frame has at most fourteen bytes
 sent-small : (e : Step) (rows : List Contents) (r : Reply) → length (sentOf rows r) ≤ 14

@@ -1,13 +1,13 @@
 -- What the replay in pieces promises: a session in terms of the text that was fed to it, and what its rows leave in a room. Then
 -- calls one after the other (`FeedRuns`).
-use Prim.Native.Nat.{ℕ, _/_, min, _≤_, _<_}
+use Prim.Native.Nat.{ℕ, _≤_, _<_}
 use mathlib.Core.Path.{_≡_}
 use mathlib.Core.List.{List, [], _++_}
 use lib.ListN.{length, take, drop}
 use lib.Dec.{leb, eqb}
 use Rattle.masks.specs.Pick.{pick}
 use Rattle.report.specs.Text.{Wrote, fitting}
-use Rattle.pieces.specs.Feed.{Feed, endLine, feedEnd, outOf, lastOf}
+use Rattle.pieces.specs.Feed.{Feed, endLine, feedEnd, outOf, takenOf, lastOf}
 use Rattle.replaying.specs.declared.Player.{Player}
 use Rattle.replaying.specs.declared.Session.{Session}
 use Rattle.replaying.specs.declared.Fed.{Fed}
@@ -18,10 +18,10 @@ use Rattle.replaying.specs.Replay.{play, showRow}
 abbrev pub feedOf : Session → Feed Player
 feedOf s = record { state = s .player; held = s .held; number = s .number }
 
--- `feed`: a byte of the piece is taken for each 64 bytes of room, and the rows of the lines that end in those bytes stand
--- at the start of the room
+-- `feed`: a byte of the piece is taken while 64 bytes of room are left behind the rows, and the rows of the lines that end in those bytes
+-- stand at the start of the room
 pub record Feeds (s : Session) (piece out : List ℕ) (r : Fed) (out′ : List ℕ) : Type 0 where
-  pub taken : r .taken ≡ min (length piece) (length out / 64)
+  pub taken : r .taken ≡ takenOf play showRow 64 (length out) (feedOf s) 0 piece
   pub session : feedOf (r .session) ≡ feedEnd play showRow (feedOf s) (take (r .taken) piece)
   pub wrote : Wrote out (outOf play showRow (feedOf s) (take (r .taken) piece)) (r .written) out′
 
@@ -34,6 +34,14 @@ finishedOf s out =
 pub record Finishes (s : Session) (out : List ℕ) (r : Finished) (out′ : List ℕ) : Type 0 where
   pub session : feedOf (r .session) ≡ finishedOf s out
   pub wrote : Wrote out (fitting out 0 (lastOf play showRow (feedOf s))) (r .written) out′
+
+-- `count`: all of the piece is fed
+abbrev pub countedBy : Session → List ℕ → Feed Player
+countedBy s piece = feedEnd play showRow (feedOf s) piece
+
+-- `count_last`
+unfoldable pub lastCounted : Session → Feed Player
+lastCounted s = pick (eqb (s .held .len) 0) (feedOf s) (endLine play showRow (feedOf s))
 
 -- FeedRuns s text shown: with text left to feed, the calls from the session s on showed the bytes shown. Each call returned r and
 -- left its room as out′, as its function promises; the next one was given r's session, and the first r .written bytes of out′

@@ -1,11 +1,11 @@
-// The loop over a piece's lines on a lent controller.
+// The loop over a piece's lines on a lent controller: a line's step is read, done, and its row is written; then the next.
 ghost use mathlib.Core.Path.{_≡_};
 ghost use Rattle.controller.specs.Session.{stepOf};
 ghost use Rattle.controller.specs.Calls.{doneOf, stepFor, roomFor};
 ghost use Rattle.lines.specs.Grammar.{bytesIn};
-ghost use Rattle.replaying.specs.CodeTurn.{Steps, Plays};
+ghost use Rattle.replaying.specs.CodeLoop.{Turns, Plays};
+use crate::At;
 use crate::Lent;
-use crate::Turn;
 use crate::turns;
 use controller::Call;
 use controller::Controller;
@@ -21,36 +21,30 @@ fn step(c: &mut Controller, call: Call, f: FrameBytes, room: &mut [u8]) -> Answe
     in_place::step(c, call, &bytes[..n], room)
 }
 
-// The due step on the lent controller, its row, and the next step sought.
-fn line_in_place(
-    c: &mut Controller,
-    room: &mut [u8],
-    piece: &[u8],
-    end: usize,
-    out: &mut [u8],
-    t: Turn,
-) -> Turn
-    ensures { λ r. ⌜ Steps (now (c .entry)) (now (room .entry)) (now (piece .entry)) end (now (out .entry)) t r (now (c .exit)) (now (room .exit)) (now (out .exit)) ⌝ }
+// One line: its step is read where it lies, done on the lent controller, and its row written. Where there is no step, one that changes
+// nothing is done.
+fn line_in_place(c: &mut Controller, room: &mut [u8], piece: &[u8], out: &mut [u8], t: At) -> At
+    ensures { λ r. ⌜ Turns (now (c .entry)) (now (room .entry)) (now (piece .entry)) (now (out .entry)) t r (now (c .exit)) (now (room .exit)) (now (out .exit)) ⌝ }
 {
-    let a = step(c, t.call, t.frame, room);
-    let irq = (*c).lines();
-    turns::answered(room, piece, end, out, t, a, irq)
+    let f = turns::seek(piece, t);
+    let a = step(c, f.call, f.frame, room);
+    let irq = turns::lines_after(*c, a, t.irq);
+    turns::turned(room, piece, out, t, f, a, irq)
 }
 
-// All steps of the piece.
+// All lines of the piece, as far as the room goes.
 fn lines_in_place(
     c: &mut Controller,
     room: &mut [u8],
     piece: &[u8],
-    end: usize,
     out: &mut [u8],
-    start: Turn,
-) -> Turn
-    ensures { λ r. ⌜ Plays (now (c .entry)) (now (room .entry)) (now (piece .entry)) end (now (out .entry)) start r (now (c .exit)) (now (room .exit)) (now (out .exit)) ⌝ }
+    start: At,
+) -> At
+    ensures { λ r. ⌜ Plays (now (c .entry)) (now (room .entry)) (now (piece .entry)) (now (out .entry)) start r (now (c .exit)) (now (room .exit)) (now (out .exit)) ⌝ }
 {
     let mut t = start;
-    while t.due {
-        t = line_in_place(c, room, piece, end, out, t);
+    while t.more {
+        t = line_in_place(c, room, piece, out, t);
     }
     t
 }
@@ -60,16 +54,15 @@ pub(crate) fn lines_lent(
     c: Controller,
     room: &mut [u8],
     piece: &[u8],
-    end: usize,
     out: &mut [u8],
-    start: Turn,
+    start: At,
 ) -> Lent
-    ensures { λ r. ⌜ Plays c (now (room .entry)) (now (piece .entry)) end (now (out .entry)) start (r .turn) (r .controller) (now (room .exit)) (now (out .exit)) ⌝ }
+    ensures { λ r. ⌜ Plays c (now (room .entry)) (now (piece .entry)) (now (out .entry)) start (r .at) (r .controller) (now (room .exit)) (now (out .exit)) ⌝ }
 {
     let mut n = c;
-    let t = lines_in_place(&mut n, room, piece, end, out, start);
+    let t = lines_in_place(&mut n, room, piece, out, start);
     Lent {
         controller: n,
-        turn: t,
+        at: t,
     }
 }

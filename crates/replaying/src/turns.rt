@@ -1,91 +1,43 @@
-// The loop over a piece's lines, but for the controller's steps: it is given the answer of each, and seeks the next.
+// The loop over a piece's lines, but for the controller's steps: a line's step is read, and once it is answered the line is done with.
 ghost use mathlib.Core.Path.{_≡_};
 ghost use Prim.Native.Nat.{_+_, _≤_, _<_};
-ghost use lib.ListN.{length, replicate};
-ghost use Rattle.lines.specs.Grammar.{lineOf};
-ghost use Rattle.pieces.specs.Feed.{lineIn};
+ghost use mathlib.Core.List.{[], _∷_, _++_};
+ghost use lib.ListN.{length, replicate, drop, take};
+ghost use lib.Dec.{leb};
+ghost use Rattle.rules.specs.Answers.{wordOf, detailOf};
+ghost use Rattle.report.specs.Text.{Put, fitting, wordText, unreadText, detailText};
+ghost use Rattle.report.specs.CodeNumbers.{numberedRow};
 ghost use Rattle.replaying.specs.SentLaws.{sentSize};
-ghost use Rattle.replaying.specs.CodeTurn.{idles, reaches, awaits, passes, unreadOf, countedOf, Ends, Seeks, Begins, Answers};
+ghost use Rattle.replaying.specs.CodeLoop.{shownIf, needOf, goesOn, passes, stops, linesAfter, unreadOf, countedOf, soughtOf, Unreads, Answers, Turned};
+use crate::At;
 use crate::Tally;
-use crate::Turn;
-use controller::Call;
-use lines::FrameBytes;
-use lines::Line;
-use lines::Parsed;
-use pieces::Held;
+use controller::Controller;
+use lines::Found;
 use rules::Answer;
 
-// The line that is held, as a step.
-fn parsed(h: Held) -> Parsed
-    ensures { λ r. ⌜ r ≡ lineOf (lineIn h) ⌝ }
+// The step of the line where the loop stands: none past the last line that is read.
+pub(crate) fn seek(piece: &[u8], t: At) -> Found
+    ensures { λ r. ⌜ r ≡ soughtOf (now (piece .entry)) t ⌝ }
 {
-    let n = h.len as usize;
-    if 64 < n {
-        return lines::unread();
+    if !pieces::is_read(t.number) {
+        return lines::none();
     }
-    let bytes = h.bytes;
-    lines::parse(&bytes[..n])
+    lines::read(piece, t.from)
 }
 
-// The turn with no step. The last one's is not carried on: it would be copied from line to line.
-fn idle(t: Turn) -> Turn
-    ensures { λ r. ⌜ r ≡ idles t ⌝ }
+// The five lines after an answer: computed anew only where the answer can have changed them.
+pub(crate) fn lines_after(c: Controller, a: Answer, irq: u8) -> u8
+    ensures { λ r. ⌜ r ≡ linesAfter c a irq ⌝ }
 {
-    let tally = t.tally;
-    Turn {
-        number: t.number,
-        tally,
-        irq: t.irq,
-        taken: t.taken,
-        written: t.written,
-        due: false,
-        call: Call::Reset,
-        frame: FrameBytes {
-            bytes: [0u8; 34],
-            size: 0,
-        },
+    match a {
+        Answer::Value(_)
+        | Answer::HeldOff(_)
+        | Answer::Refused(_)
+        | Answer::Unmatched
+        | Answer::Ignored
+        | Answer::NotSent => irq,
+        _ => c.lines(),
     }
-}
-
-// The turn at the LF that ends its line.
-fn reached(t: Turn, at: usize) -> Turn
-    ensures { λ r. ⌜ r ≡ reaches t at ⌝ }
-{
-    let mut next = t;
-    next.taken = at;
-    next
-}
-
-// The turn with a step due, at the LF that it has reached.
-fn awaiting(t: Turn, call: Call, frame: FrameBytes) -> Turn
-    ensures { λ r. ⌜ r ≡ awaits t call frame ⌝ }
-{
-    let tally = t.tally;
-    Turn {
-        number: t.number,
-        tally,
-        irq: t.irq,
-        taken: t.taken,
-        written: t.written,
-        due: true,
-        call,
-        frame,
-    }
-}
-
-// The turn past the LF, which stands before index at.
-fn passed(t: Turn, at: usize, irq: u8, tally: Tally, written: usize) -> Turn
-    ensures { λ r. ⌜ r ≡ passes t at irq tally written ⌝ }
-{
-    let number = pieces::number_after(t.number);
-    let mut next = t;
-    next.number = number;
-    next.tally = tally;
-    next.irq = irq;
-    next.taken = at;
-    next.written = written;
-    next.due = false;
-    next
 }
 
 // The tally with a line counted that is no step.
@@ -111,78 +63,85 @@ fn counted(k: Tally, a: Answer) -> Tally
     }
 }
 
-// At the LF of a line that is read as p, behind which index next stands: its step is due, or the line is done with and has
-// its row, if it is read.
-fn line_ended(t: Turn, p: Parsed, next: usize, out: &mut [u8]) -> Turn
-    ensures { λ r. ⌜ Ends t p next (now (out .entry)) r (now (out .exit)) ⌝ }
+// A room of so many bytes has place for what is shown of a line behind the written ones.
+pub(crate) fn has_room(rows: bool, written: usize, size: usize) -> bool
+    ensures { λ r. ⌜ r ≡ leb (written + needOf rows) size ⌝ }
 {
-    let number = t.number;
+    if !rows {
+        return written <= size;
+    }
+    if size < 64 {
+        return false;
+    }
+    written <= size - 64
+}
+
+// A line begins at index next of a piece of so many bytes, and there is room for what is shown of it.
+pub(crate) fn goes_on(rows: bool, next: usize, written: usize, end: usize, size: usize) -> bool
+    ensures { λ r. ⌜ r ≡ goesOn rows next written end size ⌝ }
+{
+    if end <= next {
+        return false;
+    }
+    has_room(rows, written, size)
+}
+
+// Past the line's LF, which stands before index next.
+fn passed(t: At, next: usize, irq: u8, tally: Tally, written: usize, end: usize, size: usize) -> At
+    ensures { λ r. ⌜ r ≡ passes t next irq tally written end size ⌝ }
+{
+    let number = pieces::number_after(t.number);
+    let rows = t.rows;
+    let more = goes_on(rows, next, written, end, size);
+    let digits = report::number_next(t.digits, number);
+    At {
+        digits,
+        from: next,
+        written,
+        tally,
+        number,
+        irq,
+        more,
+        rows,
+    }
+}
+
+// The loop is over.
+fn stopped(t: At) -> At
+    ensures { λ r. ⌜ r ≡ stops t ⌝ }
+{
+    let mut last = t;
+    last.more = false;
+    last
+}
+
+// The row of a line that is no step, where rows are written.
+fn put_unread(out: &mut [u8], t: At) -> usize
+    ensures { λ r. ⌜ Put (now (out .entry)) (t .written) (shownIf (t .rows) (fitting (now (out .entry)) (t .written) (numberedRow (t .digits) unreadText (45 ∷ []) (t .irq)))) (now (out .exit)) r ⌝ }
+{
+    let rows = t.rows;
+    if !rows {
+        return t.written;
+    }
+    report::unread_row(out, t.written, t.digits, t.irq)
+}
+
+// The line is no step: it is done with if it ends in the piece, and has its row if it is read.
+fn unread_line(piece: &[u8], out: &mut [u8], t: At) -> At
+    ensures { λ r. ⌜ Unreads (now (piece .entry)) (now (out .entry)) t r (now (out .exit)) ⌝ }
+{
+    let end = piece.len();
+    let at = pieces::line_end(piece, t.from, end);
+    if end <= at {
+        return stopped(t);
+    }
     let irq = t.irq;
     let tally = t.tally;
-    if !pieces::is_read(number) {
-        return passed(t, next, irq, tally, t.written);
+    if !pieces::is_read(t.number) {
+        return passed(t, at + 1, irq, tally, t.written, end, out.len());
     }
-    let line = p.line;
-    match line {
-        Line::Means(call) => {
-            let frame = p.frame;
-            awaiting(t, call, frame)
-        }
-        Line::Unread => {
-            let w = report::unread_row(out, t.written, number, irq);
-            passed(t, next, irq, unread_counted(tally), w)
-        }
-    }
-}
-
-// Reads the lines that lie whole before index end, where they lie, up to the next one that is a step.
-pub(crate) fn seek(piece: &[u8], end: usize, out: &mut [u8], start: Turn) -> Turn
-    ensures { λ r. ⌜ Seeks (now (piece .entry)) end (now (out .entry)) start r (now (out .exit)) ⌝ }
-{
-    let mut t = idle(start);
-    while t.taken < end {
-        let from = t.taken;
-        let at = pieces::line_end(piece, from, end);
-        if pieces::least(end, piece.len()) <= at {
-            return t;
-        }
-        let p = lines::parse(&piece[from..at]);
-        t = line_ended(reached(t, at), p, at + 1, out);
-        let due = t.due;
-        if due {
-            return t;
-        }
-    }
-    t
-}
-
-// The piece's first line ends at the LF where t stands, before index next, and all of it is held: its step, or the next.
-pub(crate) fn begun(
-    piece: &[u8],
-    end: usize,
-    out: &mut [u8],
-    t: Turn,
-    held: Held,
-    next: usize,
-) -> Turn
-    ensures { λ r. ⌜ Begins (now (piece .entry)) end (now (out .entry)) t held next r (now (out .exit)) ⌝ }
-{
-    let u = line_ended(t, parsed(held), next, out);
-    let due = u.due;
-    if due {
-        return u;
-    }
-    seek(piece, end, out, u)
-}
-
-// The index behind at, but none behind end.
-fn index_after(at: usize, end: usize) -> usize
-    ensures { λ r. ⌜ (at < end → r ≡ at + 1) × (end ≤ at → r ≡ end) ⌝ }
-{
-    if at < end {
-        return at + 1;
-    }
-    end
+    let w = put_unread(out, t);
+    passed(t, at + 1, irq, unread_counted(tally), w, end, out.len())
 }
 
 // How many of a room's n bytes an answer's row shows.
@@ -195,33 +154,60 @@ fn sent_size(a: Answer, n: usize) -> usize
     }
 }
 
-// No frame is left in the room for the next slot.
-fn clear(room: &mut [u8])
-    ensures { λ _. ⌜ now (room .exit) ≡ replicate (length (now (room .entry))) 0 ⌝ }
+// The first k bytes of the room are zero again, for the next slot.
+fn clear(room: &mut [u8], k: usize)
+    requires { ⌜ k ≤ length (now room) ⌝ }
+    ensures { λ _. ⌜ now (room .exit) ≡ replicate k 0 ++ drop k (now (room .entry)) ⌝ }
 {
     let mut i = 0;
-    while i < room.len() {
+    while i < k {
         room[i] = 0;
         i += 1;
     }
 }
 
-// The due step was answered so, with the lines irq after it and the room as it left it: its row, and the next step.
-pub(crate) fn answered(
-    room: &mut [u8],
-    piece: &[u8],
-    end: usize,
-    out: &mut [u8],
-    t: Turn,
-    a: Answer,
-    irq: u8,
-) -> Turn
-    ensures { λ r. ⌜ Answers (now (room .entry)) (now (piece .entry)) end (now (out .entry)) t a irq r (now (room .exit)) (now (out .exit)) ⌝ }
+// The row of a step, where rows are written.
+fn put_row(out: &mut [u8], t: At, a: Answer, sent: &[u8], irq: u8) -> usize
+    ensures { λ r. ⌜ Put (now (out .entry)) (t .written) (shownIf (t .rows) (fitting (now (out .entry)) (t .written) (numberedRow (t .digits) (wordText (wordOf a)) (detailText (detailOf a (take 14 (now (sent .entry))))) irq))) (now (out .exit)) r ⌝ }
+{
+    let rows = t.rows;
+    if !rows {
+        return t.written;
+    }
+    report::row(out, t.written, t.digits, a, sent, irq)
+}
+
+// The line's step, whose LF stands at index at, was answered so, with the lines irq after it and the room as it left it: its row.
+fn answered(room: &mut [u8], end: usize, out: &mut [u8], t: At, at: usize, a: Answer, irq: u8) -> At
+    requires { ⌜ at < end ⌝ }
+    ensures { λ r. ⌜ Answers (now (room .entry)) end (now (out .entry)) t at a irq r (now (room .exit)) (now (out .exit)) ⌝ }
 {
     let k = sent_size(a, room.len());
-    let w = report::row(out, t.written, t.number, a, &room[..k], irq);
-    clear(room);
-    let next = index_after(t.taken, end);
+    let w = put_row(out, t, a, &room[..k], irq);
+    clear(room, k);
     let tally = t.tally;
-    seek(piece, end, out, passed(t, next, irq, counted(tally, a), w))
+    passed(t, at + 1, irq, counted(tally, a), w, end, out.len())
+}
+
+// The line where the loop stands is done with: its step f was answered so, or it has none.
+pub(crate) fn turned(
+    room: &mut [u8],
+    piece: &[u8],
+    out: &mut [u8],
+    t: At,
+    f: Found,
+    a: Answer,
+    irq: u8,
+) -> At
+    ensures { λ r. ⌜ Turned (now (room .entry)) (now (piece .entry)) (now (out .entry)) t f a irq r (now (room .exit)) (now (out .exit)) ⌝ }
+{
+    let at = f.at;
+    if at == 0 {
+        return unread_line(piece, out, t);
+    }
+    let end = piece.len();
+    if end <= at {
+        return stopped(t);
+    }
+    answered(room, end, out, t, at, a, irq)
 }

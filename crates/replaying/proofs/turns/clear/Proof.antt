@@ -1,20 +1,19 @@
 use Prim.Native.Nat.{ℕ, _-_, _≤_, _<_}
 use denote.Ref.{now}
 use native.Mathlib.Omega.{arith}
-use native.Mathlib.Nat.{le-of-eq}
 use mathlib.Core.Path.{_≡_, refl, ap, _∙_}
-use mathlib.Core.List.{List, _++_, append-nil}
+use mathlib.Core.List.{List, _++_}
 use borrow.Author.Fill.{fill-none, fill-more}
-use lib.ListN.{length, set, drop, replicate, length-set, drop-of-length-le}
+use lib.ListN.{length, set, drop, replicate, length-set}
 use borrow.Author.Needs.{needs}
 use Rattle.replaying.proofs.turns.clear.Statement.{statement}
 use Rattle.replaying.proofs.turns.clear.Tie as tie
 
 abbrev Inv-loop : tie.InvT-loop
-Inv-loop room₀ i₀ room i = (room ≡ replicate i 0 ++ drop i room₀) × (i ≤ length room₀) × (length room ≡ length room₀)
+Inv-loop room₀ k i₀ room i = (room ≡ replicate i 0 ++ drop i room₀) × (i ≤ k) × (length room ≡ length room₀)
 
 abbrev μ-loop : tie.MeasureT-loop
-μ-loop room₀ i₀ room i = length room₀ - i
+μ-loop room₀ k i₀ room i = k - i
 
 loop-holds : tie.Need-loop-holds Inv-loop μ-loop
 loop-holds c = (fill-none _ 0, omega arith, refl)
@@ -32,7 +31,7 @@ loop-again : tie.Need-loop-again Inv-loop μ-loop
 loop-again c =
     let at = c .before in
     let room = now (at .before .args .room) in
-    let inside : at .loop .i < length room = omega arith in
+    let inside : at .loop .i < length room = search needs in
     (ap (λ (l : List ℕ). set l (at .loop .i) 0) (at .loop .inv .0) ∙ fill-more (at .loop .i) 0 room inside, omega arith, length-set (at .loop .room) (at .loop .i) 0 ∙ at .loop .inv .2)
 
 same-length : tie.Need-same-length Inv-loop μ-loop
@@ -41,11 +40,8 @@ same-length c = c .before .loop .inv .2
 returns : tie.Need-returns Inv-loop μ-loop
 returns c =
     let at = c .before in
-    let room = now (at .before .args .room) in
-    let all : at .loop .i ≡ length room = omega arith in
-    at .loop .inv .0 ∙ ap (λ (n : ℕ). replicate n 0 ++ drop n room) all
-    ∙ ap (λ (l : List ℕ). replicate (length room) 0 ++ l) (drop-of-length-le room (le-of-eq refl))
-    ∙ append-nil (replicate (length room) 0)
+    let all : at .loop .i ≡ at .before .args .k = omega arith in
+    at .loop .inv .0 ∙ ap (λ (n : ℕ). replicate n 0 ++ drop n (now (at .before .args .room))) all
 
 pub clear-spec : {M : Type 1} → statement M
 clear-spec =

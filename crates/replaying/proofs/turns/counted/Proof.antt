@@ -1,4 +1,4 @@
-use Rattle.replaying.specs.CodeTurn.{countedOf}
+use Rattle.replaying.specs.CodeLoop.{countedOf}
 use Rattle.masks.specs.Pick.{pick}
 use Rattle.replaying.proofs.AnswerLaws.{other-counted}
 use borrow.Author.Needs.{needs}
