@@ -1,21 +1,25 @@
 //! The product beside the model: the static library's controller on the sequences of bench.rs, in one
-//! process and in turn, and the two programs that replay a recording. Run by tests/bench.
+//! process and in turn, and the two programs that replay recordings. Run by tests/bench.
 
 #[allow(dead_code)] // what the program model does with the sequences
 mod bench;
 mod controller;
 #[allow(dead_code)] // what a comparison looks at
 mod library;
-#[allow(dead_code)] // the filters over whole recordings
 mod text;
+#[allow(dead_code)] // the memory
+mod usage;
 
 use bench::{prepare, round, Timed, NAMES};
 use controller::{Controller, Step};
 use library::{numbers, Library, Numbers, SIZE};
+use std::fs::File;
 use std::hint::black_box;
 use std::io;
 use std::process::{Command, ExitCode, Stdio};
-use std::time::Instant;
+
+/// What is replayed: the kinds of make.rs, each a file of the folder.
+const RECORDINGS: [&str; 4] = ["mixed", "wild", "text", "data"];
 
 impl Timed for Library {
     type Call<'a> = (Numbers, &'a [u8]);
@@ -33,46 +37,31 @@ impl Timed for Library {
     }
 }
 
-/// The best of each of two, taken in turn, so that a busy moment meets both.
-fn best(
+/// Runs the two in turn, so that a busy moment meets both, and picks a time of each.
+fn in_turn(
     rounds: usize,
     mut ours: impl FnMut() -> io::Result<f64>,
     mut model: impl FnMut() -> io::Result<f64>,
+    pick: fn(Vec<f64>) -> f64,
 ) -> io::Result<(f64, f64)> {
-    let mut best = (f64::INFINITY, f64::INFINITY);
+    let mut times = (Vec::new(), Vec::new());
     for _ in 0..rounds {
-        best = (best.0.min(ours()?), best.1.min(model()?));
+        times.0.push(ours()?);
+        times.1.push(model()?);
     }
-    Ok(best)
+    Ok((pick(times.0), pick(times.1)))
 }
 
-fn row(name: &str, (ours, model): (f64, f64)) {
-    println!("{name:<16}{ours:>12.1}{model:>12.1}{:>8.2}", ours / model);
+fn best(times: Vec<f64>) -> f64 {
+    times.into_iter().fold(f64::INFINITY, f64::min)
 }
 
-/// Time of one line in nanoseconds, with the program's start.
-fn replay(program: &str, words: &[&str], lines: f64) -> io::Result<f64> {
-    let mut command = Command::new(program);
-    command
-        .args(words)
-        .stdout(Stdio::null())
-        .stderr(Stdio::null());
-    let start = Instant::now();
-    if !command.status()?.success() {
-        return Err(io::Error::other(format!("{program} failed")));
-    }
-    Ok(start.elapsed().as_secs_f64() * 1e9 / lines)
+fn median(mut times: Vec<f64>) -> f64 {
+    times.sort_by(f64::total_cmp);
+    times[times.len() / 2]
 }
 
-fn run(arguments: &[&str]) -> Option<io::Result<()>> {
-    let [ours, model, recording, lines, steps, rounds] = *arguments else {
-        return None;
-    };
-    let (lines, steps, rounds) = (
-        lines.parse().ok()?,
-        steps.parse().ok()?,
-        rounds.parse().ok()?,
-    );
+fn steps(count: usize, rounds: usize) -> io::Result<()> {
     println!(
         "{:<16}{:>12}{:>12}{:>8}",
         "ns a step", "hevrukan", "model", "ratio"
@@ -81,19 +70,67 @@ fn run(arguments: &[&str]) -> Option<io::Result<()>> {
         let (mut library, mut controller) = (Library::holding(0), Controller::new());
         prepare(&mut library, name);
         prepare(&mut controller, name);
-        let times = best(
+        let (ours, model) = in_turn(
             rounds,
-            || Ok(round(&mut library, name, steps)),
-            || Ok(round(&mut controller, name, steps)),
-        );
-        row(name, times.expect("a round in this process ends"));
+            || Ok(round(&mut library, name, count)),
+            || Ok(round(&mut controller, name, count)),
+            best,
+        )?;
+        println!("{name:<16}{ours:>12.1}{model:>12.1}{:>8.2}", ours / model);
     }
-    let times = best(
-        rounds,
-        || replay(ours, &[recording], lines),
-        || replay(model, &["replay", recording], lines),
+    Ok(())
+}
+
+/// Processor time of a program in nanoseconds, from its start to its end.
+fn time(program: &str, words: &[&str], output: Stdio) -> io::Result<f64> {
+    let mut command = Command::new(program);
+    command.args(words).stdout(output).stderr(Stdio::null());
+    let before = usage::of_children()?.processor_time();
+    if !command.status()?.success() {
+        return Err(io::Error::other(format!("{program} failed")));
+    }
+    let taken = usage::of_children()?.processor_time() - before;
+    Ok(taken.as_nanos() as f64)
+}
+
+fn replays(programs: [&str; 2], folder: &str, lines: f64, rounds: usize) -> io::Result<()> {
+    println!(
+        "{:<16}{:>12}{:>12}{:>22}",
+        "ns a line", "hevrukan", "baseline", "speed, baseline = 1"
     );
-    Some(times.map(|times| row("replay, a line", times)))
+    let [ours, model] = programs;
+    for kind in RECORDINGS {
+        let recording = format!("{folder}/{kind}");
+        for to in ["nothing", "a file"] {
+            let output = || {
+                Ok::<_, io::Error>(match to {
+                    "nothing" => Stdio::null(),
+                    _ => File::create(format!("{folder}/report"))?.into(),
+                })
+            };
+            let (ours, model) = in_turn(
+                rounds,
+                || Ok(time(ours, &[&recording], output()?)? / lines),
+                || Ok(time(model, &["replay", &recording], output()?)? / lines),
+                median,
+            )?;
+            let name = format!("{kind} to {to}");
+            println!("{name:<16}{ours:>12.1}{model:>12.1}{:>22.2}", model / ours);
+        }
+    }
+    Ok(())
+}
+
+fn run(arguments: &[&str]) -> Option<io::Result<()>> {
+    let [ours, model, folder, lines, count, rounds] = *arguments else {
+        return None;
+    };
+    let (lines, count) = (lines.parse().ok()?, count.parse().ok()?);
+    let rounds = rounds.parse().ok().filter(|&rounds| rounds > 0)?;
+    Some(steps(count, rounds).and_then(|()| {
+        println!();
+        replays([ours, model], folder, lines, rounds)
+    }))
 }
 
 fn main() -> ExitCode {
@@ -106,7 +143,7 @@ fn main() -> ExitCode {
             ExitCode::FAILURE
         }
         None => {
-            eprintln!("usage: beside REPLAY MODEL RECORDING LINES STEPS ROUNDS");
+            eprintln!("usage: beside REPLAY MODEL FOLDER LINES STEPS ROUNDS");
             ExitCode::from(2)
         }
     }

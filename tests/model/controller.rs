@@ -262,6 +262,12 @@ impl Controller {
 
     /// One whole step. Only an answer of `Sent` touches the room.
     pub fn step(&mut self, step: &Step, room: &mut [u8]) -> Answer {
+        self.step_inline(step, room)
+    }
+
+    /// The same where the step has just been read: the two matches become one.
+    #[inline(always)]
+    pub fn step_inline(&mut self, step: &Step, room: &mut [u8]) -> Answer {
         match *step {
             Step::Reset => {
                 *self = Controller::new();

@@ -7,9 +7,9 @@ mod cases;
 mod controller;
 mod counts;
 mod library;
+#[allow(dead_code)] // the kinds of recordings that no session is made of
 mod make;
 mod pair;
-#[allow(dead_code)] // the filters over whole recordings
 mod text;
 
 use call::{Call, FRAME, ROOM};

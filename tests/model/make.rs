@@ -1,6 +1,8 @@
 //! Random recordings, the same for the same kind, seed and number of lines. The maker never runs the
 //! controller; it only remembers what it has set up, so that an error there can't shape the recordings.
 
+mod profiles;
+
 use crate::controller::bits::*;
 use crate::controller::{Fault, Pulse, Step};
 use crate::text::put_step;
@@ -47,6 +49,8 @@ pub enum Kind {
     Mixed,
     Wild,
     Damaged,
+    Text,
+    Data,
 }
 
 /// How many identifiers are in use; so few that frames, buffers and slots meet.
@@ -98,6 +102,8 @@ pub fn make(kind: Kind, seed: u64, lines: usize, mut output: impl Write) -> io::
         match kind {
             Kind::Wild => maker.wild(),
             Kind::Mixed | Kind::Damaged => maker.episode(),
+            Kind::Text => maker.log(),
+            Kind::Data => maker.exchange(),
         }
         output.write_all(&maker.out)?;
         maker.out.clear();
