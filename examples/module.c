@@ -50,13 +50,15 @@ static void pulse(const char *why) {
     row("sync normal", hevrukan_sync(&c, HEVRUKAN_NORMAL), why);
 }
 
-// A good frame of the module.
+// A good frame of the module, and how many receive buffers were examined for its own.
 static void frame(const uint8_t *bytes, size_t count, const char *why) {
     char call[64];
+    uint32_t answer = hevrukan_frame(&c, HEVRUKAN_GOOD, bytes, count);
     size_t used = (size_t)snprintf(call, sizeof call, "frame");
     for (size_t k = 0; k < count && used < sizeof call; k++)
         used += (size_t)snprintf(call + used, sizeof call - used, " %02X", (unsigned)bytes[k]);
-    row(call, hevrukan_frame(&c, HEVRUKAN_GOOD, bytes, count), why);
+    row(call, answer, why);
+    printf("    receive buffers examined: %u\n", (unsigned)hevrukan_looked(answer));
 }
 
 static void slot(uint32_t identifier, const char *why) {

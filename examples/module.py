@@ -41,10 +41,11 @@ def pulse(why):
 
 
 def frame(data, why):
-    """A good frame of the module."""
+    """A good frame of the module, and how many receive buffers were examined for its own."""
     answer = c.frame(data)
     text = answer.word if answer.detail is None else f"{answer.word} {answer.detail}"
     row(f"frame {spaced(data)}", text, why)
+    print(f"    receive buffers examined: {answer.looked}")
 
 
 def slot(identifier, why):

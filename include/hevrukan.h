@@ -1,8 +1,9 @@
 // hevrukan.h: the emulated Byteflight controller, for C99 and C++. Link with libhevrukan.a (./hevrukan library builds it).
 //
 // One controller is one struct hevrukan. hevrukan_reset writes it; after that each call is one whole step of document 01: it
-// changes the record and gives an answer, 256 * word + detail. The library keeps nothing of its own and allocates nothing: any
-// number of controllers may stand side by side, and a record may be copied by assignment, as a state to go back to.
+// changes the record and gives an answer, 65536 * looked + 256 * word + detail, looked being how many buffers were examined for a
+// frame (hevrukan_looked). The library keeps nothing of its own and allocates nothing: any number of controllers may stand side by
+// side, and a record may be copied by assignment, as a state to go back to.
 //
 //     struct hevrukan c;
 //     hevrukan_reset(&c, sizeof c);
@@ -29,8 +30,10 @@ extern "C" {
 #endif
 
 // The bytes of a record. Its content is the library's business: read it through the registers, and compare two controllers by
-// them too, since a byte of the record is unused and may be anything.
-#define HEVRUKAN_SIZE 266
+// them too, since three bytes of the record are unused and may be anything. Two of them are the last: no call reads or writes
+// them. They set this header apart from the one before it, whose record had 266 bytes and whose hevrukan_word took all of an
+// answer above the detail: a program built with that one is answered wrong size, and doesn't misread what looked adds.
+#define HEVRUKAN_SIZE 268
 
 struct hevrukan {
     uint16_t record[HEVRUKAN_SIZE / 2];
@@ -245,8 +248,9 @@ static inline uint32_t hevrukan_slot(struct hevrukan *c, uint32_t identifier, ui
 }
 
 // A frame on the bus: identifier, length byte, data. verdict says whether its checksum and form were good. stored, queued,
-// heldoff, overrun, unmatched, badframe, ignored, woke, or refused (11). Of what its buffer held before, a stored or queued
-// frame leaves nothing: the data registers behind its last byte read 0. A null frame is one of no bytes.
+// heldoff, overrun, unmatched, badframe, ignored, woke, or refused (11). The first five were looked up: hevrukan_looked says in how
+// many buffers. Of what its buffer held before, a stored or queued frame leaves nothing: the data registers behind its last byte
+// read 0. A null frame is one of no bytes.
 static inline uint32_t hevrukan_frame(struct hevrukan *c, uint32_t verdict, const uint8_t *frame, size_t frame_size) {
     const uint8_t no_frame[1] = {0};
     uint8_t no_room[1] = {0};
@@ -266,12 +270,18 @@ static inline uint32_t hevrukan_timeout(struct hevrukan *c) {
 
 // An answer's word: see enum hevrukan_answer_word.
 static inline uint32_t hevrukan_word(uint32_t answer) {
-    return answer >> 8;
+    return (answer >> 8) & 0xFF;
 }
 
 // An answer's detail.
 static inline uint32_t hevrukan_detail(uint32_t answer) {
     return answer & 0xFF;
+}
+
+// How many dedicated receive buffers were examined for a frame's buffer, 0 to 16: those from FSIZ to its buffer, that one
+// included, or all of them if none carries its identifier. 0 for a frame that is not looked up and for every other step.
+static inline uint32_t hevrukan_looked(uint32_t answer) {
+    return answer >> 16;
 }
 
 // The answer is a refusal; its detail is then the number. 1 or 0.

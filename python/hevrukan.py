@@ -1,20 +1,22 @@
 """The emulated Byteflight controller: a thin layer over libhevrukan.so, which ./hevrukan library builds.
 
-Each method of a Controller is one whole step of document 01. A read gives the register's value, any other step an Answer: a word
-and a detail. A refusal is the exception Refused, with its number; what document 01 doesn't name is Unknown, a ValueError. Neither
-changes the controller.
+Each method of a Controller is one whole step of document 01. A read gives the register's value, any other step an Answer: a word,
+a detail, and how many buffers were examined for a frame. A refusal is the exception Refused, with its number; what document 01
+doesn't name is Unknown, a ValueError. Neither changes the controller.
 
 >>> c = Controller()
 >>> c.write(BFBUFCTL(0), LOCK)                  # buffer 0 in the receive window
-Answer(word='ok', detail=None)
+Answer(word='ok', detail=None, looked=0)
 >>> c.write(BFRIDENT, 0x21)                     # takes identifier $21
-Answer(word='ok', detail=None)
->>> c.write(BFBUFCTL(0), IENA), c.write(BFRIER, RXIE), c.write(BFMCR, 0)
-(Answer(word='ok', detail=None), Answer(word='ok', detail=None), Answer(word='ok', detail=None))
+Answer(word='ok', detail=None, looked=0)
+>>> [c.write(BFBUFCTL(0), IENA).word, c.write(BFRIER, RXIE).word, c.write(BFMCR, 0).word]
+['ok', 'ok', 'ok']
 >>> c.sync()
-Answer(word='ok', detail=None)
->>> c.frame(bytes.fromhex("2102AABB"))
-Answer(word='stored', detail=0)
+Answer(word='ok', detail=None, looked=0)
+>>> c.frame(bytes.fromhex("2102AABB"))          # the first buffer examined carries $21
+Answer(word='stored', detail=0, looked=1)
+>>> c.frame(bytes.fromhex("2200"))              # none of sixteen carries $22, and there is no FIFO
+Answer(word='unmatched', detail=None, looked=16)
 >>> c.lines() == LINE_RECEIVE, c.read(BFRIVEC)
 (True, 0)
 >>> c.write(BFRIDENT, 0x22)
@@ -122,14 +124,17 @@ _LARGEST = 0xFFFFFFFF
 
 
 class Answer(typing.NamedTuple):
-    """What a step is answered: document 01's word, and its detail.
+    """What a step is answered: document 01's word, its detail, and the buffers examined.
 
     The detail is the buffer's number (stored, queued, heldoff), the frame's bytes (sent), NORMAL_PULSE or ALARM_PULSE
-    (pulse), and None of the others.
+    (pulse), and None of the others. looked is how many dedicated receive buffers were examined for a frame's buffer (stored,
+    queued, heldoff, overrun, unmatched), 0 to 16: those from FSIZ to its buffer, that one included, or all of them if none
+    carries its identifier. It is 0 for every other answer.
     """
 
     word: str
     detail: typing.Union[int, bytes, None] = None
+    looked: int = 0
 
 
 class Refused(Exception):
@@ -226,8 +231,9 @@ class Controller:
     def frame(self, data, good=True):
         """A frame on the bus, as bytes: identifier, length byte, data; good is the verdict on its checksum and form.
 
-        stored, queued, heldoff, overrun, unmatched, badframe, ignored or woke. Refused 11. Of what its buffer held before,
-        a stored or queued frame leaves nothing: the data registers behind its last byte read 0.
+        stored, queued, heldoff, overrun, unmatched, badframe, ignored or woke. Refused 11. The first five were looked up:
+        the answer's looked says in how many buffers. Of what its buffer held before, a stored or queued frame leaves
+        nothing: the data registers behind its last byte read 0.
         """
         if isinstance(data, int):
             raise TypeError("a frame is bytes, not a number")
@@ -263,7 +269,7 @@ class Controller:
 
     @staticmethod
     def _answer(answer, room, call):
-        number, detail = divmod(answer, 256)
+        looked, number, detail = answer >> 16, answer >> 8 & 0xFF, answer & 0xFF
         if number == _UNKNOWN:
             raise Unknown(f"{call}: a number is out of range")
         if number == _WRONG_SIZE:
@@ -273,7 +279,7 @@ class Controller:
             raise Refused(detail)
         if word == "sent":
             return Answer(word, bytes(room[:detail]))
-        return Answer(word, detail if word in _WITH_DETAIL else None)
+        return Answer(word, detail if word in _WITH_DETAIL else None, looked)
 
 
 # What test code gets that imports the names with *: all but the modules.

@@ -1,5 +1,5 @@
 // The edges of the C interface: sizes, kinds and numbers that document 01 doesn't name, odd frames and rooms, each refusal with
-// its text, and that nothing changes where nothing may. tests/interface builds and runs it.
+// its text, the buffers examined for a frame, and that nothing changes where nothing may. tests/interface builds and runs it.
 #include <hevrukan.h>
 
 #include <stdio.h>
@@ -16,7 +16,7 @@ static void check(int holds, const char *what, int line) {
     fprintf(stderr, "tests/interface.c:%d: fails: %s\n", line, what);
 }
 
-// The fields of the library's record, in its order.
+// The fields of the library's record, in its order. Two bytes of the record stand behind them.
 struct filter { uint8_t pattern, mask; };
 struct locks { uint8_t holder, contender; };
 struct mirror {
@@ -29,7 +29,8 @@ struct mirror {
     struct { uint8_t bytes[14]; } rows[16];
 };
 
-enum { RECEIVE = 3, TRANSMIT = 15, ROOM = 20, CANARY = 0xC5 };
+// LOOKED: buffers 2 and 3 are examined where 3 carries the identifier. ALL: the buffers from 2 up to 14.
+enum { RECEIVE = 3, LOOKED = 2, ALL = 13, TRANSMIT = 15, ROOM = 20, CANARY = 0xC5 };
 enum { SAID_UNKNOWN = HEVRUKAN_UNKNOWN << 8, SAID_WRONG_SIZE = HEVRUKAN_WRONG_SIZE << 8 };
 
 static uint32_t refused(uint32_t number) {
@@ -40,6 +41,11 @@ static uint32_t said(uint32_t word, uint32_t detail) {
     return (word << 8) + detail;
 }
 
+// The answer of a frame that was looked up.
+static uint32_t said_looked(uint32_t word, uint32_t detail, uint32_t looked) {
+    return (looked << 16) + said(word, detail);
+}
+
 static void must(uint32_t answer) {
     CHECK(hevrukan_word(answer) == HEVRUKAN_OK);
 }
@@ -48,7 +54,7 @@ static struct hevrukan fresh(void) {
     struct hevrukan c;
     memset(&c, CANARY, sizeof c);
     must(hevrukan_reset(&c, sizeof c));
-    // the record's unused byte, behind the two locks
+    // the unused byte between the fields, behind the two locks
     ((uint8_t *)&c)[offsetof(struct mirror, buffers) - 1] = CANARY;
     return c;
 }
@@ -101,7 +107,7 @@ static void test_size(void) {
     struct aligned { char before; uint16_t number; };
     CHECK(hevrukan_size() == HEVRUKAN_SIZE);
     CHECK(sizeof(struct hevrukan) == HEVRUKAN_SIZE);
-    CHECK(sizeof(struct mirror) == HEVRUKAN_SIZE);
+    CHECK(sizeof(struct mirror) + 2 == HEVRUKAN_SIZE);
     CHECK(offsetof(struct shifted, c) == offsetof(struct aligned, number));
 }
 
@@ -110,7 +116,7 @@ static void test_mirror(void) {
     struct hevrukan c = running();
     struct mirror m;
     static const uint8_t frame[] = {0x21, 2, 0x55, 0xAA};
-    CHECK(hevrukan_frame(&c, HEVRUKAN_GOOD, frame, sizeof frame) == said(HEVRUKAN_STORED, RECEIVE));
+    CHECK(hevrukan_frame(&c, HEVRUKAN_GOOD, frame, sizeof frame) == said_looked(HEVRUKAN_STORED, RECEIVE, LOOKED));
     memcpy(&m, &c, sizeof m);
     CHECK(m.mode.init == 0 && m.mode.synced == 1 && m.mode.last == 0x21);
     CHECK(m.config.fsiz == 2 && m.config.accept.mask == 0xFF && m.config.reject.mask == 0xFF && m.config.bfen == 1);
@@ -118,6 +124,8 @@ static void test_mirror(void) {
     CHECK(m.receive.holder == 16 && m.transmit.contender == 16);
     CHECK(m.buffers.cfg == 1u << TRANSMIT && m.buffers.iflg == 1u << RECEIVE && m.buffers.armed == 1u << TRANSMIT);
     CHECK(memcmp(m.rows[RECEIVE].bytes, frame, sizeof frame) == 0 && m.rows[TRANSMIT].bytes[13] == 0xAB);
+    // behind the fields nothing was written, by reset neither
+    for (size_t k = sizeof m; k < sizeof c; k++) CHECK(((const uint8_t *)&c)[k] == CANARY);
 }
 
 static void test_reset(void) {
@@ -133,7 +141,7 @@ static void test_reset(void) {
 }
 
 static void test_wrong_size(void) {
-    static const size_t sizes[] = {0, 1, HEVRUKAN_SIZE - 1, HEVRUKAN_SIZE + 1, HEVRUKAN_SIZE + 256, (size_t)-1};
+    static const size_t sizes[] = {0, 1, sizeof(struct mirror), HEVRUKAN_SIZE - 1, HEVRUKAN_SIZE + 1, HEVRUKAN_SIZE + 256, (size_t)-1};
     static const uint8_t frame[] = {0x21, 0};
     for (size_t k = 0; k < sizeof sizes / sizeof sizes[0]; k++) {
         struct hevrukan c = running(), before = c;
@@ -144,6 +152,33 @@ static void test_wrong_size(void) {
         for (uint32_t kind = 0; kind <= 10; kind++)
             CHECK(unchanged_step(c, sizes[k], kind, 0, 0, frame, sizeof frame, HEVRUKAN_ROOM) == SAID_WRONG_SIZE);
         CHECK(unchanged_step(c, sizes[k], HEVRUKAN_KIND_SLOT, 0x41, 0, frame, 0, HEVRUKAN_ROOM) == SAID_WRONG_SIZE);
+    }
+}
+
+// What a program gets that was built with the header before this one: its record has 266 bytes, and its hevrukan_word is
+// answer >> 8. It sees wrong size, whatever it calls, and not a byte of record and room changes.
+static void test_header_before(void) {
+    enum { SIZE = 266, BEHIND = 8 };
+    struct { uint16_t record[SIZE / 2], behind[BEHIND]; } given, before;
+    struct hevrukan *c = (struct hevrukan *)&given;
+    static const uint8_t frame[] = {0x21, 1, 0x55};
+    uint8_t room[ROOM], untouched[ROOM];
+    memset(room, CANARY, sizeof room);
+    memset(untouched, CANARY, sizeof untouched);
+    memset(&given, CANARY, sizeof given);
+    CHECK(hevrukan_size() != SIZE);
+    for (int of_session = 0; of_session <= 1; of_session++) {
+        // at first bytes that no reset wrote, then those of a session
+        struct hevrukan session = running();
+        if (of_session) memcpy(given.record, &session, SIZE);
+        before = given;
+        CHECK(hevrukan_reset(c, SIZE) >> 8 == HEVRUKAN_WRONG_SIZE);
+        CHECK(hevrukan_lines(c, SIZE) >> 8 == HEVRUKAN_WRONG_SIZE);
+        for (uint32_t kind = 0; kind <= 10; kind++)
+            for (uint32_t first = 0; first <= 0x41; first++)
+                CHECK(hevrukan_step(c, SIZE, kind, first, 0, frame, sizeof frame, room, sizeof room) >> 8 == HEVRUKAN_WRONG_SIZE);
+        CHECK(memcmp(&given, &before, sizeof given) == 0);
+        CHECK(memcmp(room, untouched, sizeof room) == 0);
     }
 }
 
@@ -206,14 +241,48 @@ static void test_frames(void) {
     struct hevrukan c = running();
     CHECK(hevrukan_frame(&c, HEVRUKAN_GOOD, NULL, 0) == refused(11));
     CHECK(hevrukan_frame(&c, HEVRUKAN_GOOD, NULL, 14) == refused(11));
-    CHECK(hevrukan_frame(&c, HEVRUKAN_GOOD, bytes, 14) == said(HEVRUKAN_STORED, RECEIVE));
+    CHECK(hevrukan_frame(&c, HEVRUKAN_GOOD, bytes, 14) == said_looked(HEVRUKAN_STORED, RECEIVE, LOOKED));
     CHECK(hevrukan_frame(&c, HEVRUKAN_BAD, bytes, 14) == said(HEVRUKAN_BADFRAME, 0));
     // a length of 15 has twelve data bytes, one of 0 none
     bytes[1] = 15;
-    CHECK(hevrukan_frame(&c, HEVRUKAN_GOOD, bytes, 14) == said(HEVRUKAN_STORED, RECEIVE));
+    CHECK(hevrukan_frame(&c, HEVRUKAN_GOOD, bytes, 14) == said_looked(HEVRUKAN_STORED, RECEIVE, LOOKED));
     bytes[1] = 0;
-    CHECK(hevrukan_frame(&c, HEVRUKAN_GOOD, bytes, 2) == said(HEVRUKAN_STORED, RECEIVE));
+    CHECK(hevrukan_frame(&c, HEVRUKAN_GOOD, bytes, 2) == said_looked(HEVRUKAN_STORED, RECEIVE, LOOKED));
     CHECK(unchanged_step(fresh(), HEVRUKAN_SIZE, HEVRUKAN_KIND_FRAME, 1, 0, bytes, 2, 0) == said(HEVRUKAN_IGNORED, 0));
+}
+
+// The buffers examined, beside each answer of a frame.
+static void test_looked(void) {
+    static const uint8_t own[] = {0x21, 0}, other[] = {0x60, 0}, empty[] = {0, 0};
+    struct hevrukan c = running();
+    CHECK(hevrukan_frame(&c, HEVRUKAN_GOOD, own, 2) == said_looked(HEVRUKAN_STORED, RECEIVE, LOOKED));
+    must(hevrukan_write(&c, BFBUFCTL(RECEIVE), BF_LOCK));
+    CHECK(hevrukan_frame(&c, HEVRUKAN_GOOD, own, 2) == said_looked(HEVRUKAN_HELDOFF, RECEIVE, LOOKED));
+    CHECK(hevrukan_frame(&c, HEVRUKAN_GOOD, other, 2) == said_looked(HEVRUKAN_QUEUED, 0, ALL));
+    CHECK(hevrukan_frame(&c, HEVRUKAN_GOOD, other, 2) == said_looked(HEVRUKAN_QUEUED, 1, ALL));
+    CHECK(hevrukan_frame(&c, HEVRUKAN_GOOD, other, 2) == said_looked(HEVRUKAN_OVERRUN, 0, ALL));
+    CHECK(hevrukan_frame(&c, HEVRUKAN_GOOD, empty, 2) == said(HEVRUKAN_BADFRAME, 0));
+    CHECK(hevrukan_frame(&c, HEVRUKAN_GOOD, own, 1) == refused(11));
+    must(hevrukan_fault(&c, HEVRUKAN_LOST));
+    CHECK(hevrukan_frame(&c, HEVRUKAN_GOOD, own, 2) == said(HEVRUKAN_IGNORED, 0));
+    c = asleep();
+    CHECK(hevrukan_frame(&c, HEVRUKAN_GOOD, own, 2) == said(HEVRUKAN_WOKE, 0));
+    // sixteen receive buffers, all but the last without identifier
+    c = fresh();
+    must(hevrukan_write(&c, BFBUFCTL(15), BF_LOCK));
+    must(hevrukan_write(&c, BFRIDENT, 0x21));
+    must(hevrukan_write(&c, BFBUFCTL(15), 0));
+    must(hevrukan_write(&c, BFMCR, 0));
+    must(hevrukan_sync(&c, HEVRUKAN_NORMAL));
+    CHECK(hevrukan_frame(&c, HEVRUKAN_GOOD, own, 2) == said_looked(HEVRUKAN_STORED, 15, 16));
+    CHECK(hevrukan_frame(&c, HEVRUKAN_GOOD, other, 2) == said_looked(HEVRUKAN_UNMATCHED, 0, 16));
+    // the three parts of an answer, each without the other two
+    for (uint32_t looked = 0; looked <= 16; looked++) {
+        uint32_t answer = said_looked(HEVRUKAN_HELDOFF, 15, looked);
+        CHECK(hevrukan_looked(answer) == looked && hevrukan_word(answer) == HEVRUKAN_HELDOFF && hevrukan_detail(answer) == 15);
+        CHECK(!hevrukan_is_refused(answer) && hevrukan_is_refused(refused(looked)) && hevrukan_looked(refused(looked)) == 0);
+    }
+    CHECK(hevrukan_looked(SAID_UNKNOWN) == 0 && hevrukan_looked(SAID_WRONG_SIZE) == 0);
 }
 
 static void test_rooms(void) {
@@ -300,11 +369,11 @@ static void test_copy(void) {
     must(hevrukan_write(&c, BFFSIZR, 1));
     must(hevrukan_write(&c, BFMCR, 0));
     must(hevrukan_sync(&c, HEVRUKAN_NORMAL));
-    CHECK(hevrukan_frame(&c, HEVRUKAN_GOOD, frame, sizeof frame) == said(HEVRUKAN_QUEUED, 0));
+    CHECK(hevrukan_frame(&c, HEVRUKAN_GOOD, frame, sizeof frame) == said_looked(HEVRUKAN_QUEUED, 0, 15));
     struct hevrukan d = c;
-    CHECK(hevrukan_frame(&c, HEVRUKAN_GOOD, other, sizeof other) == said(HEVRUKAN_OVERRUN, 0));
+    CHECK(hevrukan_frame(&c, HEVRUKAN_GOOD, other, sizeof other) == said_looked(HEVRUKAN_OVERRUN, 0, 15));
     CHECK(hevrukan_read(&d, BFGISR) == said(HEVRUKAN_READ, 0));
-    CHECK(hevrukan_frame(&d, HEVRUKAN_GOOD, other, sizeof other) == said(HEVRUKAN_OVERRUN, 0));
+    CHECK(hevrukan_frame(&d, HEVRUKAN_GOOD, other, sizeof other) == said_looked(HEVRUKAN_OVERRUN, 0, 15));
     for (uint32_t address = 0; address <= 0x5F; address++) CHECK(hevrukan_read(&c, address) == hevrukan_read(&d, address));
 }
 
@@ -313,10 +382,12 @@ int main(void) {
     test_mirror();
     test_reset();
     test_wrong_size();
+    test_header_before();
     test_unknown();
     test_unused();
     test_address();
     test_frames();
+    test_looked();
     test_rooms();
     test_refusals();
     test_texts();

@@ -126,41 +126,58 @@ class Edges(unittest.TestCase):
             for c in (Controller(), running(), asleep()):
                 self.refused(11, c, "frame", (b"\x21\x0c" + bytes(300))[:size])
         for data in (b"\x21\x02\xaa\x00", bytearray(b"\x21\x02\xaa\x00"), [0x21, 2, 0xAA, 0]):
-            self.assertEqual(running().frame(data), Answer("stored", 3))
-        self.assertEqual(running().frame(b"\x21\x0f" + bytes(12)), ("stored", 3))
-        self.assertEqual(running().frame(b"\x21\x00", good=False), ("badframe", None))
+            self.assertEqual(running().frame(data), Answer("stored", 3, 2))
+        self.assertEqual(running().frame(b"\x21\x0f" + bytes(12)), ("stored", 3, 2))
+        self.assertEqual(running().frame(b"\x21\x00", good=False), ("badframe", None, 0))
         c = running()
-        self.assertEqual(c.frame(b"\x21\x0c" + b"\xee" * 12), ("stored", 3))
-        self.assertEqual(c.frame(b"\x21\x01\xaa"), ("stored", 3))
+        self.assertEqual(c.frame(b"\x21\x0c" + b"\xee" * 12), ("stored", 3, 2))
+        self.assertEqual(c.frame(b"\x21\x01\xaa"), ("stored", 3, 2))
         c.write(BFBUFCTL(3), LOCK)
         self.assertEqual([c.read(BFRDATA(n)) for n in range(12)], [0xAA] + 11 * [0])
         # no receive buffer carries $22, and the filters are as after reset
-        self.assertEqual(running().frame(b"\x22\x00"), ("queued", 0))
+        self.assertEqual(running().frame(b"\x22\x00"), ("queued", 0, 13))
         no_fifo = Controller()
         no_fifo.write(BFMCR, 0)
         no_fifo.sync()
-        self.assertEqual(no_fifo.frame(b"\x22\x00"), ("unmatched", None))
+        self.assertEqual(no_fifo.frame(b"\x22\x00"), ("unmatched", None, 16))
+
+    def test_looked(self):
+        c = running()
+        self.assertEqual(c.frame(b"\x21\x00").looked, 2)
+        c.write(BFBUFCTL(3), LOCK)
+        self.assertEqual(c.frame(b"\x21\x00"), ("heldoff", 3, 2))
+        for answer in (("queued", 0, 13), ("queued", 1, 13), ("overrun", None, 13), ("overrun", None, 13)):
+            self.assertEqual(c.frame(b"\x60\x00"), answer)
+        self.assertEqual(asleep().frame(b"\x21\x00"), ("woke", None, 0))
+        self.assertEqual(Controller().frame(b"\x21\x00"), ("ignored", None, 0))
+        self.assertEqual(c.frame(b"\x00\x00"), ("badframe", None, 0))
+        # a read's value is nothing but the value, and what has no count says 0
+        self.assertEqual(c.read(BFFSIZR), 2)
+        self.assertEqual(Answer("ok"), ("ok", None, 0))
+        # each part of an answer, whatever the others are
+        for looked in range(17):
+            self.assertEqual(Controller._answer(65536 * looked + 256 * 4 + 15, None, ""), ("heldoff", 15, looked))
 
     def test_rooms(self):
         for room in (0, 1, 13):
             self.refused(12, running(), "slot", 0x41, room=room)
         for room in (14, 15, 1000):
             self.assertEqual(running().slot(0x41, room=room), Answer("sent", b"\x41\x02\x10\x64"))
-        self.assertEqual(running().slot(0x42), ("notsent", None))
+        self.assertEqual(running().slot(0x42), Answer("notsent"))
 
     def test_events(self):
         c = Controller()
         c.write(BFMCR, MASTER | ALARM)
         c.write(BFRIER, SYNAIE)
-        self.assertEqual(c.sync_due(), ("pulse", ALARM_PULSE))
+        self.assertEqual(c.sync_due(), Answer("pulse", ALARM_PULSE))
         self.assertEqual(c.lines(), LINE_SYNC)
-        self.assertEqual(c.timeout(), ("ok", None))
-        self.assertEqual(c.sync_due(), ("pulse", NORMAL_PULSE))
-        self.assertEqual(c.fault(LOST), ("ok", None))
+        self.assertEqual(c.timeout(), Answer("ok"))
+        self.assertEqual(c.sync_due(), Answer("pulse", NORMAL_PULSE))
+        self.assertEqual(c.fault(LOST), Answer("ok"))
         self.assertEqual(c.read(BFGISR), SYNLIF)
-        self.assertEqual(c.frame(b"\x21\x00"), ("ignored", None))
-        self.assertEqual(asleep().sync(ALARM_PULSE), ("woke", None))
-        self.assertEqual(c.reset(), ("ok", None))
+        self.assertEqual(c.frame(b"\x21\x00"), Answer("ignored"))
+        self.assertEqual(asleep().sync(ALARM_PULSE), Answer("woke"))
+        self.assertEqual(c.reset(), Answer("ok"))
         self.assertEqual(registers_of(c), registers_of(Controller()))
 
     def test_copy(self):
@@ -177,7 +194,8 @@ class Edges(unittest.TestCase):
         c = running()
         before = bytes_of(c)
         room = ctypes.create_string_buffer(14)
-        for wrong in (0, size - 1, size + 1):
+        # 266: a record of the library before it gave the buffers examined
+        for wrong in (0, 266, size - 1, size + 1):
             self.assertEqual(library().hevrukan_reset(c._record, wrong), 65 * 256)
             self.assertEqual(library().hevrukan_lines(c._record, wrong), 65 * 256)
             self.assertEqual(library().hevrukan_step(c._record, wrong, 5, 0x41, 0, b"", 0, room, 14), 65 * 256)

@@ -5,7 +5,7 @@ sys.path.insert(0,os.path.dirname(os.path.abspath(__file__)))
 from walk import *
 Cal=Decl("Call","Call-row","enum","controller",False)
 Fra=Decl("FrameBytes","Frame-row","struct","lines",False)
-Ans=Decl("Answer","Answer-row","enum","rules",False)
+Ans=Decl("Answered","Answered-row","struct","controller",False)
 BYTES="tyArray byte 34"
 LT=[Ans.mir(),"tyRef (named 0) mut rec-ty",Cal.mir(),Fra.mir(),"sliceTy (tyRef (named 1) mut byte)",BYTES,"word","tyRef erased mut rec-ty",f"tyRef erased imm ({BYTES})","sliceTy (tyRef erased imm byte)","tyRef erased mut byte","sliceTy (tyRef erased mut byte)"]
 N=len(LT); CELLS=[f"_{i}" for i in range(N)]; DIES=[f"d{i}" for i in range(N)]; ALL=CELLS+DIES
@@ -67,7 +67,7 @@ w.emit(f"rewrite ! {w.at('part')} (λ (m : ℕ). ‵ (ShrSlice (named 1) (α ∷
 PASSED=["tok","α","t-room","rec","part","room"]; w.to(PASSED); w.emit("group ! 6 $ use1 W (raw (Step 𝓤 H A at-mem run .pre (to α l5 k δ))) (asked α l5 k δ) $\n"); w.give(6,["pre"])
 w.emit(f"calls-at ! fm (Step 𝓤 H A at-mem run) known (to α l5 k δ) {w.ops([w.load(7),w.load(2),w.load(9),w.load(11)])} (λ v.\n")
 KS="(κ, (α ∷ [], (κ-room, tt)))"; AR="(args l5 k δ)"; SA="Said k (ws .0) x (ws .1 .1 .1 .0)"
-w.emit(f"use1 W (later (some (λ (x : Answer). (({TOK} ⊛ ‵ (flft (α ∷ []) fullShare) ⊛ {TROOM} ⊛ ‵ ftrue) ⊛ ‵ ({Ans.row()} .own x (v ∷ []))) ⊛ raw (ensured 𝓤 H A step.ended (step.clauses 𝓤 H A at-mem run) {KS} {AR} tt x)))) (id⊢ 𝓤 _) $ await ! tt $ pick ! (λ x.\n")
+w.emit(f"use1 W (later (some (λ (x : Answered). (({TOK} ⊛ ‵ (flft (α ∷ []) fullShare) ⊛ {TROOM} ⊛ ‵ ftrue) ⊛ ‵ ({Ans.row()} .own x (v ∷ []))) ⊛ raw (ensured 𝓤 H A step.ended (step.clauses 𝓤 H A at-mem run) {KS} {AR} tt x)))) (id⊢ 𝓤 _) $ await ! tt $ pick ! (λ x.\n")
 w.emit(f"split ! $ move ! (1 ∷ []) $ use1 W (some (λ (ws : Lasts step.ended {KS} {AR}). ‵ (lasts step.ended {KS} {AR} ws) ⊛ raw (fact 𝓤 ({SA})))) (id⊢ 𝓤 _) $ pick ! (λ ws.\n")
 w.emit(f"split ! $ move ! (1 ∷ []) $ heard ! ({SA}) (λ p. fsplit ! $ move ! (1 ∷ []) $ fsplit ! $ drop ! $ fsplit ! $ drop ! $ fsplit ! $ fsplit ! $ move ! (1 ∷ []) $ feqL ! (λ l.\n"); w.give(1,["fin","true","last","res"])
 w.to(["res"]); w.emit("split ! $ "); w.give(1,["toks","own"]); w.to(["own"])
@@ -78,7 +78,7 @@ w.land(0,LT[0],Ans.typed("x","is"),Ans.same("x","is")); end=["last","tok","t-roo
 w.emit("left (ws .0) x (ws .1 .1 .1 .0) (said k e p) (answer-is x _ is) l"); two=w.text()
 # ---- the return
 w.ctx=end+ALL; w.emit(f"returns ! (look ! {w.cell(0)} refl) $ "); w.free(N,range(N)); w.keep(end); w.emit("by ! (exits c x zs e g l)")
-lemma("-- the `return`","left",us(range(1,N))+f"(c : Controller) (x : Answer) (zs : List ℕ) → Says c x zs → {Ans.is_('x')} → length zs ≡ length room → ","left c x zs e g l",9,end+ALL,{**{i:f"y{i}" for i in range(1,N)},0:Ans.val("x")},w.text())
+lemma("-- the `return`","left",us(range(1,N))+f"(c : Controller) (x : Answered) (zs : List ℕ) → Says c x zs → {Ans.is_('x')} → length zs ≡ length room → ","left c x zs e g l",9,end+ALL,{**{i:f"y{i}" for i in range(1,N)},0:Ans.val("x")},w.text())
 lemma("-- the step","stepped","(k : ℕ) → k ≡ length (bytesIn f) → k < 2 ^ 64 → ","stepped k e k-fits",3,base,val2,two)
 lemma("-- from the first statement on: the bytes are copied, and counted","sized","","sized",1,base,val,one)
 # ---- the file
@@ -134,7 +134,7 @@ use denote.Triple.Table.{{entered, cited}}
 use denote.Triple.Walked.{{says, Stays, gave-ref, stay-none, gave-slice, walkOf, AllGo, goes-none, goes-gave-slice, goes-gave-ref, Walks, ends-at, walked, walk-meets}}
 use denote.Exit.{{yes}}
 use Rattle.controller.specs.Session.{{stepOf}}
-use Rattle.controller.specs.Calls.{{doneOf, stepFor, roomFor}}
+use Rattle.controller.specs.Calls.{{answeredOf, stepFor, roomFor}}
 use Rattle.lines.specs.Grammar.{{bytesIn}}
 {chr(10).join(d.uses() for d in (Con,Cal,Fra,Ans))}
 use Rattle.lines.proofs.FrameLaws.{{all-bytes, frame-part}}
@@ -173,7 +173,7 @@ same-list : (xs : List ℕ) → map (λ v. v) xs ≡ xs
 same-list [] = refl
 same-list (x ∷ xs) = ap (λ (ys : List ℕ). x ∷ ys) (same-list xs)
 
-answer-is : (x : Answer) (vs : List Val) → Is {Ans.row()} x vs → {Ans.is_("x")}
+answer-is : (x : Answered) (vs : List Val) → Is {Ans.row()} x vs → {Ans.is_("x")}
 answer-is x vs g = subst (Is {Ans.row()} x) ({Ans.tells()} x vs g) g
 
 module _ {G} (W : Given 𝓤 H A) {AM} (κ κ-room : Lft) (q q-room : Share) (b o : ℕ) (γ : GName) (h : Controller) (call : Call) (f : FrameBytes) (b-room o-room : ℕ) (γ-room : GName) (room : List ℕ) (call-is : {Cal.is_("call")}) (f-is : {Fra.is_("f")}) (room-room : Room u8 (length room)) where
@@ -202,8 +202,8 @@ module _ {G} (W : Given 𝓤 H A) {AM} (κ κ-room : Lft) (q q-room : Share) (b 
   Post = walkOf 𝓤 H A this.ended stayed (this.clauses 𝓤 H A at-mem run) .post {BOUND}
 
   -- what is to be said, and what `in_place::step` says of the frame's first k bytes
-  abbrev Says : Controller → Answer → List ℕ → Type 0
-  Says c x zs = (c ≡ doneOf (stepOf h ({STEP})) .next) × (x ≡ doneOf (stepOf h ({STEP})) .answer) × (zs ≡ roomFor h call room)
+  abbrev Says : Controller → Answered → List ℕ → Type 0
+  Says c x zs = (c ≡ stepOf h ({STEP}) .next) × (x ≡ answeredOf (stepOf h ({STEP}))) × (zs ≡ roomFor h call room)
 
   -- all its bytes, and so many they are
   abbrev bytes : List ℕ
@@ -221,11 +221,11 @@ module _ {G} (W : Given 𝓤 H A) {AM} (κ κ-room : Lft) (q q-room : Share) (b 
   bytes-room : Room u8 (length bytes)
   bytes-room = (omega (arith, every), omega (arith, every))
 
-  abbrev Said : ℕ → Controller → Answer → List ℕ → Type 0
-  Said k c x zs = (c ≡ doneOf (stepOf h (stepFor call (take k bytes) room)) .next) × (x ≡ doneOf (stepOf h (stepFor call (take k bytes) room)) .answer) × (zs ≡ roomFor h call room)
+  abbrev Said : ℕ → Controller → Answered → List ℕ → Type 0
+  Said k c x zs = (c ≡ stepOf h (stepFor call (take k bytes) room) .next) × (x ≡ answeredOf (stepOf h (stepFor call (take k bytes) room))) × (zs ≡ roomFor h call room)
 
-  said : (k : ℕ) → k ≡ length (bytesIn f) → {{c : Controller}} {{x : Answer}} {{zs : List ℕ}} → Said k c x zs → Says c x zs
-  said k e p = (p .0 ∙ ap (λ (xs : List ℕ). doneOf (stepOf h (stepFor call xs room)) .next) (part-is k e), p .1 ∙ ap (λ (xs : List ℕ). doneOf (stepOf h (stepFor call xs room)) .answer) (part-is k e), p .2)
+  said : (k : ℕ) → k ≡ length (bytesIn f) → {{c : Controller}} {{x : Answered}} {{zs : List ℕ}} → Said k c x zs → Says c x zs
+  said k e p = (p .0 ∙ ap (λ (xs : List ℕ). stepOf h (stepFor call xs room) .next) (part-is k e), p .1 ∙ ap (λ (xs : List ℕ). answeredOf (stepOf h (stepFor call xs room))) (part-is k e), p .2)
 
   counted : (k : ℕ) → k ≡ length (bytesIn f) → k ≡ length (take k bytes)
   counted k e = e ∙ ap length (sym (part-is k e))
@@ -245,7 +245,7 @@ module _ {G} (W : Given 𝓤 H A) {AM} (κ κ-room : Lft) (q q-room : Share) (b 
   abbrev Had : Controller → List ℕ → List (Item 𝓤)
   Had c zs = {" ∷ ".join(EX[l] for l in end)} ∷ []
 
-  exits : (c : Controller) (x : Answer) (zs : List ℕ) → Says c x zs → {Ans.is_("x")} → length zs ≡ length room → ent 𝓤 (⋆ 𝓤 H A (Had c zs)) (Post ({Ans.val("x")}))
+  exits : (c : Controller) (x : Answered) (zs : List ℕ) → Says c x zs → {Ans.is_("x")} → length zs ≡ length room → ent 𝓤 (⋆ 𝓤 H A (Had c zs)) (Post ({Ans.val("x")}))
   exits c x zs e g l =
       qed W (Had c zs) ∵
       suffices ! _ (ends-at 𝓤 H A this.ended stayed (this.clauses 𝓤 H A at-mem run) W {BOUND} ({Ans.val("x")}) x (c, (tt, (tt, (zs, tt)))) (tt, (tt, (tt, (l, tt))))) $ says ! e $

@@ -10,7 +10,7 @@ Cal=Decl("Call","Call-row","enum","controller",False)
 Rul=Decl("Ruling","Ruling-row","struct","rules",False)
 Ctl=Decl("Control","Control-row","struct","rules",False)
 Row=Decl("Contents","Row","struct","contents",False)
-Ans=Decl("Answer","Answer-row","enum","rules",False)
+Ans=Decl("Answered","Answered-row","struct","controller",False)
 path=lambda i:" .1"*i+" .0"
 TEXT=[]
 def put(x): TEXT.append(x)
@@ -224,19 +224,19 @@ def carry():
     lemma("-- the control state is stored","ruling",us([4])+"(m : Controller) → ruled m ≡ changed h x .next → "+Con.is_("(ruled m)")+" → ","ruling m e now-is","pieces.t-3",RET,start,w.text())
     # ---- the answer
     w.ctx=list(base); start=(base,LT,val2,{**OPENED,"cell":CELL("c")})
-    w.assign(f"(of-opd ! {w.part(2,3)})",0,Ans.typed("x .answer","answer-is"))
+    w.assign(f"(of-opd ! {w.part(2,3)})",0,Ans.typed("x .answered","answer-is"))
     w.emit(Con.owned("c","now-is")); w.give(0,["own"]); w.to(["cell","own","obor","obs","auth"]); w.emit("closes ! tt T.the-row c (mach c ∷ []) b o $\n"); w.give(5,["obs","bor","tok"])
     end=["obs","bor","tok"]; w.to(end+ALL); w.emit("left c e")
     lemma("-- the answer, and the borrow's end at the record c","answered",us([4])+"(c : Controller) → c ≡ changed h x .next → "+Con.is_("c")+" → ","answered c e now-is","pieces.t-4",RET,start,w.text())
     # ---- the return
-    start=(list(w.ctx),LT,{0:Ans.val("x .answer"),1:"y1",2:"y2",4:"y4"},{"obs":OBS("c"),"bor":BOR,"tok":TOK})
+    start=(list(w.ctx),LT,{0:Ans.val("x .answered"),1:"y1",2:"y2",4:"y4"},{"obs":OBS("c"),"bor":BOR,"tok":TOK})
     w.emit(f"returns ! (look ! {w.cell(0)} refl) $ "); w.free(N,[0,1,2,4]); w.keep(end); w.emit("by ! (exits c e)")
     lemma("-- the `return`","left",us([1,2,4])+"(c : Controller) → c ≡ changed h x .next → ","left c e","pieces.t-5",RET,start,w.text())
     # ---- what is had at exit
     w=Walk(6); w.ctx=list(end)
     w.emit("nothing ! $ "); w.give(0,["t"]); w.to(["tok","t"]); w.emit("join ! $ frame ! $\n"); w.give(2,[])
     w.emit("nothing ! $ "+Cha.owned("x","x-is")+"fjoin ! $ "); w.give(0,["X"]); w.to(["obs","bor","X"])
-    w.emit("feqI ! (List Val) (vptr b o ∷ []) (vptr b o ∷ []) refl $ fjoin3 ! $ fjoin ! $ frame ! $ "+Ans.owned("x .answer","answer-is")+"done !"); exits=w.text()
+    w.emit("feqI ! (List Val) (vptr b o ∷ []) (vptr b o ∷ []) refl $ fjoin3 ! $ fjoin ! $ frame ! $ "+Ans.owned("x .answered","answer-is")+"done !"); exits=w.text()
     x_=lambda k:f"(copyᴹ (placeᴹ 2 (fieldᴹ {k} ∷ [])))"; cp=lambda k:f"(copyᴹ (placeᴹ {k} []))"
     bound=f"(((κ, tt), (q, tt), tt, a, at), tt)"
     TUP=f"LL.tuple-val {Row.a}.the-type {Row.a}′.the-laws"; ROWS="λ (rows : List Contents). record { control = x .control; rows = rows }"
@@ -293,7 +293,7 @@ module _ {G} (W : Given 𝓤 H A) {AM} (κ : Lft) (q : Share) (b o : ℕ) (γ : 
   control-is : {Ctl.is_("x .control")}
   control-is = LL.owed S.the-type S′.the-laws x _ x-is{path(0)}
 
-  answer-is : {Ans.is_("x .answer")}
+  answer-is : {Ans.is_("x .answered")}
   answer-is = LL.owed S.the-type S′.the-laws x _ x-is{path(3)}
 
   buffer-fits : {LT16} → x .buffer < 2 ^ 64
@@ -337,10 +337,10 @@ module _ {G} (W : Given 𝓤 H A) {AM} (κ : Lft) (q : Share) (b o : ℕ) (γ : 
   abbrev Had : Controller → List (Item 𝓤)
   Had c = {OBS("c")} ∷ {BOR} ∷ {TOK} ∷ []
 
-  exits : (c : Controller) → c ≡ changed h x .next → ent 𝓤 (⋆ 𝓤 H A (Had c)) (Post ({Ans.val("x .answer")}))
+  exits : (c : Controller) → c ≡ changed h x .next → ent 𝓤 (⋆ 𝓤 H A (Had c)) (Post ({Ans.val("x .answered")}))
   exits c e =
       qed W (Had c) ∵
-      suffices ! _ (ends-at 𝓤 H A this.ended stayed (this.clauses 𝓤 H A at-mem run) W {bound} ({Ans.val("x .answer")}) (x .answer) (c, (tt, tt)) (tt, (tt, tt))) $ says ! (e, refl) $
+      suffices ! _ (ends-at 𝓤 H A this.ended stayed (this.clauses 𝓤 H A at-mem run) W {bound} ({Ans.val("x .answered")}) (x .answered) (c, (tt, tt)) (tt, (tt, tt))) $ says ! (e, refl) $
       {exits}
 
   module _ (C : Calls 𝓤 H) (Λ : Loops 𝓤 H) where
@@ -382,12 +382,12 @@ change-is x vs g = LL.owes S.the-type S′.the-laws x (LL.owed S.the-type S′.t
 RULING_IS=f"""ruling-is : (r : Ruling) (vs : List Val) → Is {Rul.row()} r vs → {Rul.is_("r")}
 ruling-is r vs g = LL.owes {Rul.a}.the-type {Rul.a}′.the-laws r (LL.owed {Rul.a}.the-type {Rul.a}′.the-laws r vs g)
 """
-ANSWER_IS=f"""answer-is : (x : Answer) (vs : List Val) → Is {Ans.row()} x vs → {Ans.is_("x")}
+ANSWER_IS=f"""answer-is : (x : Answered) (vs : List Val) → Is {Ans.row()} x vs → {Ans.is_("x")}
 answer-is x vs g = subst (Is {Ans.row()} x) ({Ans.tells()} x vs g) g
 """
 SESSION="""use Rattle.controller.specs.declared.Done.{Done}
 use Rattle.controller.specs.Session.{stepOf}
-use Rattle.controller.specs.Calls.{doneOf}
+use Rattle.controller.specs.Calls.{doneOf, answerIn}
 use Rattle.controller.specs.Code.{changed}"""
 REC="""  abbrev rec : RefT Controller
   rec = record { ptr = (b, o); name = γ; now = h }
@@ -410,14 +410,14 @@ def twice(w):
     w.to(["f"]); w.emit("use1 W (‵ Bytes ⊛ ‵ Bytes) (shr-slice-copy 𝓤 H A W (named 1) κ-f u8 .twice f-ref (s-f ∷ [])) $ split ! $\n"); w.give(1,["f","f′"])
 def says(goal,had,bound,exits):
     """what a function of three parameters says of the record and its answer at exit, and that what is had there is enough for it"""
-    return f"""  abbrev Says : Controller → Answer → Type 0
-  Says c m = (c ≡ {goal} .next) × (m ≡ {goal} .answer)
+    return f"""  abbrev Says : Controller → Answered → Type 0
+  Says c m = (c ≡ {goal} .next) × (m ≡ answerIn ({goal}))
 
   -- what is had at exit
   abbrev Had : Controller → List (Item 𝓤)
   Had c = {had}
 
-  exits : (c : Controller) (m : Answer) → Says c m → {Ans.is_("m")} → ent 𝓤 (⋆ 𝓤 H A (Had c)) (Post ({Ans.val("m")}))
+  exits : (c : Controller) (m : Answered) → Says c m → {Ans.is_("m")} → ent 𝓤 (⋆ 𝓤 H A (Had c)) (Post ({Ans.val("m")}))
   exits c m e g =
       qed W (Had c) ∵
       suffices ! _ (ends-at 𝓤 H A this.ended stayed (this.clauses 𝓤 H A at-mem run) W {bound} ({Ans.val("m")}) m (c, (tt, (tt, tt))) (tt, (tt, (tt, tt)))) $ says ! e $
@@ -582,12 +582,12 @@ def lends(w,fn,ref,to,asked,args,ops,says,last=False,frame=False):
     if frame: twice(w)
     had=["obs","bor","tok"]+["t-f","f′"]*frame; κs,toks,slice=("(κ, (κ-f, tt))",f"({TOK} ⊛ {TF} ⊛ ‵ ftrue)",[3]) if frame else ("(κ, tt)",f"({TOK} ⊛ ‵ ftrue)",[])
     w.again_ref(1,ref); w.to(had); w.emit(f"group ! {len(had)} $ use1 W (raw ({fn.at()} .pre {to})) {asked} $\n"); w.give(len(had),["pre"])
-    called(w,fn,to,args,[w.load(ref)]+[w.load(i) for i in ops+slice],"Answer","m","v",κs,toks,Ans.row(),says,"d",last=last)
+    called(w,fn,to,args,[w.load(ref)]+[w.load(i) for i in ops+slice],"Answered","m","v",κs,toks,Ans.row(),says,"d",last=last)
     w.ctx=["lasts","out"]+w.ctx[2:]; w.emit("fsplit ! $\n"); w.give(1,["res","more"]); w.to(["out"]); w.emit("split ! $ "); w.give(1,["toks","own"]); w.to(["own"])
     w.emit(Ans.peeks("m","(v ∷ [])")+"(λ is. drop ! $ split ! $\n"); w.give(2,["tok","true"])
     if frame: w.to(["true"]); w.emit("split ! $ "); w.give(1,["t-f","true"])
-CARRIED="(ws .0 ≡ changed h x .next) × (m ≡ x .answer)"
-ENDS="d .0 ∙ ap (λ (u : Done). u .next) e, d .1 ∙ ap (λ (u : Done). u .answer) e"
+CARRIED="(ws .0 ≡ changed h x .next) × (m ≡ x .answered)"
+ENDS="d .0 ∙ ap (λ (u : Done). u .next) e, d .1 ∙ ap answerIn e"
 def takes_control(w,i):
     """`let i = c.control`"""
     opens(w); w.nl(); w.to(["cell"]); w.emit("use1 W ("+FAT("h")+") (W .laws .raw-at fullShare T′.mir b o (mach h)) $\n")
@@ -612,7 +612,7 @@ def write():
     end=["res","tok"]; ctx=end+ALL; w.ctx=list(ctx); kept=[1,2,3,10]
     start=(ctx,LT,{**{i:f"y{i}" for i in kept},ANS:Ans.val("m")},{"res":"‵ (fres γ (T.the-row .coded .code c))","tok":TOK})
     w.copy(ANS,0,Ans.typed("m","g")); w.emit(f"returns ! (look ! {w.cell(0)} refl) $ "); w.free(N,[0]+kept+[ANS]); w.keep(end); w.emit("by ! (exits c m e g)")
-    lemma("-- the `return`","answered",us(kept)+f"(c : Controller) (m : Answer) → Says c m → {Ans.is_('m')} → ","answered c m e g","pieces.t-3",RET,start,w.text())
+    lemma("-- the `return`","answered",us(kept)+f"(c : Controller) (m : Answered) → Says c m → {Ans.is_('m')} → ","answered c m e g","pieces.t-3",RET,start,w.text())
     # ---- a change is carried out
     HAS=["obs","bor","tok"]; ctx=HAS+ALL; held={"obs":OBS("h"),"bor":BOR,"tok":TOK}
     def carried(tag,out,ref,ys):
@@ -782,7 +782,7 @@ def step():
     con="controller"
     ARMS=[Arm("Reset",[],con,"Controller.after_reset","reset",resets=True),Arm("Read",[("n","u8")],con,"registers.read_answer","read n",window=True),Arm("Write",[("n","u8"),("u","u8")],crate,"write","write n u",lent=True),Arm("Sync",[("k",Syn)],con,"events.sync","sync k"),Arm("SyncDue",[],con,"events.sync_due","syncDue"),
       Arm("Slot",[("n","u8")],con,"events.slot_ruling","slot n room",room=True,rules=True),Arm("Frame",[("good","bool")],crate,"frame","frameStep good f",lent=True,frame=True),Arm("Fault",[("k",Fau)],con,"events.fault","fault k"),Arm("Timeout",[],con,"events.timeout","timeout")]
-    carries=Callee("carries",crate,"carry"); windows=Callee("windows",con,"registers.window_row"); filled=Callee("filled",con,"events.slot_change"); CS=[a.fn for a in ARMS]+[rows,windows,filled,carries]
+    accepts=Callee("accepts",con,"changes.accepted"); carries=Callee("carries",crate,"carry"); windows=Callee("windows",con,"registers.window_row"); filled=Callee("filled",con,"events.slot_change"); CS=[a.fn for a in ARMS]+[accepts,rows,windows,filled,carries]
     # ---- the locals, as the arms have them: their variables and the change, the answer, and what the calls want
     byte="tyInt w8"; ref="tyRef erased mut rec-ty"; lty=lambda k:byte if k=="u8" else "tyBool" if k=="bool" else k.mir()
     LT=[Ans.mir(),"tyRef (named 0) mut rec-ty",Cal.mir(),"sliceTy (tyRef (named 1) imm (tyInt w8))","sliceTy (tyRef (named 2) mut (tyInt w8))"]
@@ -824,7 +824,7 @@ def step():
     end=["res","tok","f","t-f","t-room","fin"]; ctx=end+ALL; w.ctx=list(ctx); kept=[1,2,3,4]
     start=(ctx,LT,{**{i:f"y{i}" for i in kept},ANS:Ans.val("m")},{"res":"‵ (fres γ (T.the-row .coded .code c))","tok":TOK,**LENT,"t-room":TROOM,"fin":FIN})
     w.copy(ANS,0,Ans.typed("m","g")); w.emit(f"returns ! (look ! {w.cell(0)} refl) $ "); w.free(N,[0]+kept+[ANS]); w.keep(end); w.emit("by ! (exits call call-is c m zs e g l)")
-    lemma("-- the `return`","answered",us(kept)+f"(c : Controller) (m : Answer) (zs : List ℕ) → Says call c m zs → {Ans.is_('m')} → length zs ≡ length room → ","answered c m zs e g l","pieces.t-2",RET,start,w.text())
+    lemma("-- the `return`","answered",us(kept)+f"(c : Controller) (m : Answered) (zs : List ℕ) → Says call c m zs → {Ans.is_('m')} → length zs ≡ length room → ","answered c m zs e g l","pieces.t-2",RET,start,w.text())
     def ended(filled,c,m,zs,facts):
         """the arm's end: its locals are forgotten"""
         w.emit(f"exec ! C Λ En pieces.t-2 ({RET}) $ "+"".join(f"forget ! {w.cell(i)} refl $ " for i in filled)); w.nl(); w.keep(end+ALL); w.emit(f"answered {c} {m} {zs} {facts}")
@@ -848,8 +848,9 @@ def step():
             w.emit(f"assigns ! (of-opd ! {w.load(a.copy)}) (from ! (hop ! (look ! {w.cell(1)} refl) (stop !))) (store-raw ! {w.at('cell')} refl {Con.typed('c','now-is')}) $\n")
             w.emit(Con.owned("c","now-is")); w.give(0,["own"]); w.to(["cell","own","obor","obs","auth"]); w.emit("closes ! tt T.the-row c (mach c ∷ []) b o $\n"); w.give(5,["obs","bor","tok"])
             w.to(["obs"]); w.emit("use1 W (‵ (fres γ (T.the-row .coded .code c))) (W .names .obs-res γ (T.the-row .coded .code c)) $\n"); w.give(1,["res"])
-            w.emit(f"assigns-last ! (agg ! {w.ops(['(lit ! tt)'])}) (from ! (stop !)) (init ! {w.cell(ANS)} refl {Ans.typed('Ok','ok-is')}) $ ")
-            ended([a.copy],"c","Ok","room","(e ∙ sym (ap (λ (u : Done). u .next) (reset-step h)) ∙ ap next s, sym (ap (λ (u : Done). u .answer) (reset-step h)) ∙ ap answer s, z) ok-is refl")
+            w.emit(f"use0 W (raw ({accepts.at()} .pre to-accept)) asked-accept $\n"); w.give(0,["pre"])
+            called(w,accepts,"to-accept","tt",[],"Answered","m","v","tt","‵ ftrue",Ans.row(),"m ≡ accepted","g",last=True); kept_as(w,Ans,"m"); w.land(ANS,LT[ANS],Ans.typed("m","is"),Ans.same("m","is"),last=True)
+            ended([a.copy],"c","m","room","(e ∙ sym (ap (λ (u : Done). u .next) (reset-step h)) ∙ ap next s, g ∙ sym (ap answerIn (reset-step h)) ∙ ap answer s, z) (answer-is m _ is) refl")
             lemma("-- the record after reset is stored","resetting",us([2])+f"→ {a.step} ≡ {STEP} → room ≡ roomFor h call room → (c : Controller) → {Con.is_('c')} → c ≡ resetState → ","resetting s z c now-is e","code-resetting",NEXT,start2,w.text())
             lemma(f"-- {a.con}",f"on-{a.low}",us([2])+f"→ {a.step} ≡ {STEP} → room ≡ roomFor h call room → ",f"on-{a.low} s z",f"code-{a.low}",NEXT,start,one); continue
         mine=a.locs+([] if a.reads else [a.out])+([a.d] if a.window else [a.copy])+([a.ptr,a.agg] if a.room else [])+([a.r] if a.rules else [])+(a.L.all() if a.rules or a.window else [])
@@ -882,9 +883,9 @@ def step():
             G_="read-answers h sixteen n _ (ap (rowAt (h .rows)) p)"
             def make(w):
                 k=" ".join(a.names()+[par(ROW)]); w.emit(f"use0 W (raw ({a.fn.at()} .pre (to-{a.low} {k}))) (asked-{a.low} {k} {' '.join(a.given())} d-is k-is) $\n"); w.give(0,["pre"])
-                called(w,a.fn,f"(to-{a.low} {k})",f"(args-{a.low} {k})",[w.load(i) for i in [a.d]+a.locs+[a.row]],"Answer","m","v","tt","‵ ftrue",Ans.row(),f"m ≡ readAnswer (h .control) n ({ROW})","g",last=True); kept_as(w,Ans,"m")
+                called(w,a.fn,f"(to-{a.low} {k})",f"(args-{a.low} {k})",[w.load(i) for i in [a.d]+a.locs+[a.row]],"Answered","m","v","tt","‵ ftrue",Ans.row(),f"m ≡ readAnswer (h .control) n ({ROW})","g",last=True); kept_as(w,Ans,"m")
                 w.land(ANS,LT[ANS],Ans.typed("m","is"),Ans.same("m","is"),last=True); w.to(["obs"]); w.emit("use1 W (‵ (fres γ (T.the-row .coded .code h))) (W .names .obs-res γ (T.the-row .coded .code h)) $\n"); w.give(1,["res"])
-                ended(sorted(mine),"h","m","room",f"(ap (λ (u : Done). u .next) ({G_}) ∙ ap next s, g ∙ ap (λ (u : Done). u .answer) ({G_}) ∙ ap answer s, z) (answer-is m _ is) refl")
+                ended(sorted(mine),"h","m","room",f"(ap (λ (u : Done). u .next) ({G_}) ∙ ap next s, g ∙ ap answerIn ({G_}) ∙ ap answer s, z) (answer-is m _ is) refl")
             looks(lemma,w,LT,HAS+ALL,known_,held,[2],a.L,codes(a.low),NEXT,a.low,hyp,names,lambda w:indexed(w,windows,"(to-windows n)","(asked-windows n n-fits d-is)","(h .control, (n, tt))",lambda:[w.load(a.d),w.load(a.locs[0])],at),at,"(window-below (h .control) (registerAt n) i p)",make)
             w.ctx=list(base); start=(base,LT,{**val,2:"y2",**{i:value(n,k) for i,(n,k) in zip(a.locs,a.vars)}},HELD)
             takes_control(w,a.d); unpassed(w); w.keep(HAS+ALL); w.emit(f"finding-{a.low} {given} (control-is h was) s z")
@@ -925,6 +926,12 @@ def step():
 
   asked-reset : ent 𝓤 (emp 𝓤) ({a.fn.at()} .pre to-reset)
   asked-reset = qed W [] ∵ nothing ! $ nothing ! $ {CLOSE}
+
+  abbrev to-accept : {accepts.at()} .Ghost
+  to-accept = ((tt, tt, tt, tt, tt), tt)
+
+  asked-accept : ent 𝓤 (emp 𝓤) ({accepts.at()} .pre to-accept)
+  asked-accept = qed W [] ∵ nothing ! $ nothing ! $ {CLOSE}
 """
         if a.window:
             ty=" × (".join(["Control"]+[den(k) for n,k in a.vars]+["Contents","Unit {0}"])+")"*(len(a.vars)+2); bs="".join(f"{den(k)} → " for n,k in a.vars)+"Contents → "; ns=" ".join(a.names()+["k"])
@@ -955,7 +962,7 @@ def step():
     GL="(κ, (κ-f, (κ-room, tt)))"; GQ="(q, (q-f, (q-room, tt)))"; bound=f"(({GL}, {GQ}, tt, a, at), tt)"
     def code(a):
         if a.lent: return f"abbrev code-{a.low} : Bodyᴹ\ncode-{a.low} = seqᴹ (assignᴹ (placeᴹ {a.ref} []) (addrOf (placeᴹ 1 (deref T′.mir ∷ [])))) (callᴹ #{a.fn.a} ({' ∷ '.join([cp(i) for i in [a.ref]+a.locs+[3]*a.frame]+['[]'])}) (placeᴹ {ANS} []))\n"
-        if a.resets: return f"abbrev code-resetting : Bodyᴹ\ncode-resetting = seqᴹ (assignᴹ (placeᴹ 1 (deref T′.mir ∷ [])) (rvOpd ({cp(a.copy)}))) (assignᴹ (placeᴹ {ANS} []) (aggregate (intᴹ w8 0 ∷ [])))\n\nabbrev code-reset : Bodyᴹ\ncode-reset = seqᴹ (callᴹ #{a.fn.a} [] (placeᴹ {a.copy} [])) code-resetting\n"
+        if a.resets: return f"abbrev code-resetting : Bodyᴹ\ncode-resetting = seqᴹ (assignᴹ (placeᴹ 1 (deref T′.mir ∷ [])) (rvOpd ({cp(a.copy)}))) (callᴹ #accepts [] (placeᴹ {ANS} []))\n\nabbrev code-reset : Bodyᴹ\ncode-reset = seqᴹ (callᴹ #{a.fn.a} [] (placeᴹ {a.copy} [])) code-resetting\n"
         if a.window:
             made=f"callᴹ #{a.fn.a} ({' ∷ '.join([cp(i) for i in [a.d]+a.locs+[a.row]]+['[]'])}) (placeᴹ {ANS if a.reads else a.out} [])"
             return a.L.code(a.low,f"callᴹ #windows ({cp(a.d)} ∷ {cp(a.locs[0])} ∷ [])",made if a.reads else f"seqᴹ ({made}) (carrying {a.ref} {a.out})")+f"\nabbrev code-{a.low} : Bodyᴹ\ncode-{a.low} = seqᴹ (assignᴹ (placeᴹ {a.d} []) (rvOpd (copyᴹ (placeᴹ 1 (deref T′.mir ∷ fieldᴹ 0 ∷ []))))) code-finding-{a.low}\n"
@@ -984,10 +991,9 @@ use Rattle.controller.specs.declared.Done.{{Done}}
 use Rattle.controller.specs.declared.Call.the-variants.{{{", ".join(a.con for a in ARMS)}}}
 use Rattle.controller.specs.Session.{{stepOf}}
 use Rattle.controller.specs.Carry.{{resetState}}
-use Rattle.controller.specs.Calls.{{doneOf, stepFor, roomFor}}
+use Rattle.controller.specs.Calls.{{doneOf, answerIn, accepted, answeredOf, stepFor, roomFor}}
 use Rattle.controller.specs.Code.{{changed}}
 use Rattle.controller.specs.CodeLaws.{{reset-step}}
-use Rattle.rules.specs.declared.Answer.the-variants.{{Ok}}
 {LOOK}
 use Rattle.rules.specs.Registers.{{registerAt}}
 {nl.join(d.uses() for d in (Con,Cha,Cal,Rul,Ctl,Row,Syn))}
@@ -1008,9 +1014,6 @@ stayed = (gave-ref (0 ∷ []) tt (plain (λ _. T.the-row)), (stay-none (λ _. {C
 {CHANGE_IS}
 {RULING_IS}
 {ANSWER_IS}
-ok-is : {Ans.is_("Ok")}
-ok-is = EL.owes {Ans.a}.the-type {Ans.a}′.the-laws Ok tt
-
 -- the code of the arms: a field of the call is taken, the record is copied, a change is carried out
 abbrev taken : ℕ → ℕ → ℕ → Bodyᴹ → Bodyᴹ
 taken i k j rest = seqᴹ (assignᴹ (placeᴹ i []) (rvOpd (copyᴹ (placeᴹ 2 (variantᴹ k ∷ fieldᴹ j ∷ []))))) rest
@@ -1040,8 +1043,8 @@ module _ {G} (W : Given 𝓤 H A) {AM} (κ κ-f κ-room : Lft) (q q-f q-room : S
   abbrev next : Step → Controller
   next s = doneOf (stepOf h s) .next
 
-  abbrev answer : Step → Answer
-  answer s = doneOf (stepOf h s) .answer
+  abbrev answer : Step → Answered
+  answer s = answeredOf (stepOf h s)
 
   module _ (call : Call) where
     abbrev a : Arg
@@ -1053,14 +1056,14 @@ module _ {G} (W : Given 𝓤 H A) {AM} (κ κ-f κ-room : Lft) (q q-f q-room : S
     abbrev Post : Val → SProp 𝓤
     Post = walkOf 𝓤 H A this.ended stayed (this.clauses 𝓤 H A at-mem run) .post {bound}
 
-    abbrev Says : Controller → Answer → List ℕ → Type 0
+    abbrev Says : Controller → Answered → List ℕ → Type 0
     Says c m zs = (c ≡ next ({STEP})) × (m ≡ answer ({STEP})) × (zs ≡ roomFor h call room)
 
     -- what is had at exit
     abbrev Had : Controller → List ℕ → List (Item 𝓤)
     Had c zs = ‵ (fres γ (T.the-row .coded .code c)) ∷ {TOK} ∷ ‵ Bytes ∷ {TF} ∷ {TROOM} ∷ {FIN} ∷ []
 
-    exits : {Cal.is_("call")} → (c : Controller) (m : Answer) (zs : List ℕ) → Says c m zs → {Ans.is_("m")} → length zs ≡ length room → ent 𝓤 (⋆ 𝓤 H A (Had c zs)) (Post ({Ans.val("m")}))
+    exits : {Cal.is_("call")} → (c : Controller) (m : Answered) (zs : List ℕ) → Says c m zs → {Ans.is_("m")} → length zs ≡ length room → ent 𝓤 (⋆ 𝓤 H A (Had c zs)) (Post ({Ans.val("m")}))
     exits call-is c m zs e g l =
       qed W (Had c zs) ∵
       suffices ! _ (ends-at 𝓤 H A this.ended stayed (this.clauses 𝓤 H A at-mem run) W {bound} ({Ans.val("m")}) m (c, (tt, (tt, (zs, tt)))) (tt, (tt, (tt, (l, tt))))) $ says ! e $

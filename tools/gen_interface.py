@@ -9,7 +9,7 @@ from walk import *
 FN=sys.argv[1]
 crate="hevrukan"; modp=f"Rattle.{crate}.proofs"; spec=f"Rattle.{crate}.specs"
 Cal=Decl("Call","Call-row","enum","controller",False)
-Ans=Decl("Answer","Answer-row","enum","rules",False)
+Ans=Decl("Answered","Answered-row","struct","controller",False)
 # ---- the three functions: parameters, locals behind them, callees, what is to be said
 STEP=[("c","&mut"),("size","usize"),("kind","u32"),("one","u32"),("two","u32"),("bytes","&[u8]"),("room","&mut[u8]")]
 FNS={
@@ -27,7 +27,7 @@ FNS={
   callees=[("judged","Rattle.encoding.proofs.calls.judged","encoding·calls·judged"),("meant","Rattle.encoding.proofs.calls.meant","encoding·calls·meant"),("step","Rattle.in_place.proofs.step","in-place·step"),("number","Rattle.encoding.proofs.answers.number","encoding·answers·number")],
   says="(c : Controller) (m : ℕ) (zs : List ℕ)",said="c m zs",text="stepEffect h size kind one two bytes room ≡ record { next = c; answer = m; room = zs }",
   told="What stands for no call is answered as it is judged, and the record and the room are given up as they were passed. Any other goes to `in_place::step`, with the record, the frame and the room at their own lifetimes.",
-  uses=["use Rattle.controller.specs.Session.{stepOf}","use Rattle.controller.specs.Calls.{doneOf, stepFor, roomFor}","use Rattle.encoding.specs.Answers.{numberOf}","use Rattle.encoding.specs.Code.{judgedOf, meantOf}",f"use {spec}.Interface.{{stepEffect}}",f"use {spec}.CodeLaws.{{Makes, unmade, called, made}}"]),
+  uses=["use Rattle.controller.specs.Session.{stepOf}","use Rattle.controller.specs.Calls.{answeredOf, stepFor, roomFor}","use Rattle.encoding.specs.Answers.{numberOf}","use Rattle.encoding.specs.Code.{judgedOf, meantOf}",f"use {spec}.Interface.{{stepEffect}}",f"use {spec}.CodeLaws.{{Makes, unmade, called, made}}"]),
 }
 F=FNS[FN]; params=F["params"]; callees=F["callees"]
 REFS=[n for n,k in params if k[0]=="&"]; life={n:i for i,n in enumerate(REFS)}; NL=len(REFS)
@@ -164,7 +164,7 @@ if FN=="hevrukan_reset":
     leaves(w,[0,1,2,3,4],had,"returns !","exits c _ said (lit< tt)")
     three=w.text()
     lemma("the record is stored","stored",us([3])+f"(c : Controller) → Says c 0 → {Con.is_('c').replace(Con.val('c'),'mach c')} → ","stored c said now-is",4,start,val4,three)
-    lemma("the right size: the record as after reset","wiped",us([3])+"Holds (not (not (eqb size 266))) → ","wiped t",3,start,val,two)
+    lemma("the right size: the record as after reset","wiped",us([3])+"Holds (not (not (eqb size 268))) → ","wiped t",3,start,val,two)
     lemma("from the first statement on: the size","begun","","begun",1,start,VAL,first)
     w=Walk(6); w.ctx=[]
     extra+=f"""  -- what `after_reset`'s triple binds outside, and what it asks
@@ -196,9 +196,9 @@ elif FN=="hevrukan_lines":
     calls(w,"wide","to-wide n","asked-wide n n-fits",[],lambda:[w.load(4)],"m","ℕ","u32","‵ ftrue","tt","(n, tt)","m ≡ n")
     value(w,number("u32","m")); w.to(["toks"]); w.emit("drop ! $ "); w.give(1,[])
     lands_number(w,0,"u32","m"); leaves(w,range(N),had,"returns !","exits m (lines-right h size m n t said e) (is .1)"); four=w.text()
-    lemma("the answer, wide","widened",us([3,5])+"Holds (not (not (eqb size 266))) → (n : ℕ) → n ≡ linesOf (h .control) → n < 2 ^ 8 → ","widened t n said n-fits",5,start2,val4,four)
-    lemma("the five lines","lined",us([3])+"Holds (not (not (eqb size 266))) → Is T.the-row h (mach h ∷ []) → ","lined t was",4,start2,val5,three)
-    lemma("the right size: the record is copied out","read",us([3])+"Holds (not (not (eqb size 266))) → ","read t",3,start,val,two)
+    lemma("the answer, wide","widened",us([3,5])+"Holds (not (not (eqb size 268))) → (n : ℕ) → n ≡ linesOf (h .control) → n < 2 ^ 8 → ","widened t n said n-fits",5,start2,val4,four)
+    lemma("the five lines","lined",us([3])+"Holds (not (not (eqb size 268))) → Is T.the-row h (mach h ∷ []) → ","lined t was",4,start2,val5,three)
+    lemma("the right size: the record is copied out","read",us([3])+"Holds (not (not (eqb size 268))) → ","read t",3,start,val,two)
     lemma("from the first statement on: the size","begun","","begun",1,start,VAL,first)
     w=Walk(6); w.ctx=[]; a1=asks(w,[],[Con.owned("h","was")])
     w=Walk(6); w.ctx=[]; a2=asks(w,[],[uint_owned("u8","n","n-fits")])
@@ -243,8 +243,8 @@ else:
     # the step
     OF=f"(call : Call) → {Cal.is_('call')} → Called call → "; val4={**val3,9:Cal.val("call")}; w.ctx=list(start2)
     w.again_ref(1,12); w.again(7,13,14,"room-room"); w.to(["bytes"]); w.emit("use1 W (‵ Own-bytes ⊛ ‵ Own-bytes) (shr-slice-copy 𝓤 H A W (named 1) κ-bytes u8 .twice bytes-ref (s-bytes ∷ [])) $ split ! $\n"); w.give(1,["bytes","bytes′"])
-    PASSED=["t-c","t-bytes","t-room","c","bytes","room"]; ST="doneOf (stepOf h (stepFor call bytes room))"
-    calls(w,"step","to-step call","asked-step call c-is",[x.replace("bytes","bytes′") if x=="bytes" else x for x in PASSED],lambda:[w.load(12),w.load(9),w.load(6),w.load(14)],"x","Answer",Ans.row(),"(‵ (flft κ q) ⊛ ‵ (flft κ-bytes q-bytes) ⊛ ‵ (flft κ-room q-room) ⊛ ‵ ftrue)","(κ, (κ-bytes, (κ-room, tt)))","args-step call",f"(ws .0 ≡ {ST} .next) × (x ≡ {ST} .answer) × (ws .1 .1 .1 .0 ≡ roomFor h call room)")
+    PASSED=["t-c","t-bytes","t-room","c","bytes","room"]; ST="stepOf h (stepFor call bytes room)"
+    calls(w,"step","to-step call","asked-step call c-is",[x.replace("bytes","bytes′") if x=="bytes" else x for x in PASSED],lambda:[w.load(12),w.load(9),w.load(6),w.load(14)],"x","Answered",Ans.row(),"(‵ (flft κ q) ⊛ ‵ (flft κ-bytes q-bytes) ⊛ ‵ (flft κ-room q-room) ⊛ ‵ ftrue)","(κ, (κ-bytes, (κ-room, tt)))","args-step call",f"(ws .0 ≡ {ST} .next) × (x ≡ answeredOf ({ST})) × (ws .1 .1 .1 .0 ≡ roomFor h call room)")
     w.emit("fsplit ! $ move ! (1 ∷ []) $ fsplit ! $ drop ! $ fsplit ! $ drop ! $ fsplit ! $ fsplit ! $ move ! (1 ∷ []) $ feqL ! (λ l.\n"); w.give(1,["fin","true","last"])
     w.to(["result"]); w.emit("split ! $ "); w.give(1,["toks","own"]); w.to(["own"]); w.emit(Ans.peeks("x","(v ∷ [])")+"(λ is. drop ! $ split ! $ "+"move ! (1 ∷ []) $ split ! $ "*2+"\n"); w.give(2,["t-room","true2","t-bytes","t-c"])
     w.land(10,LT[10],Ans.typed("x","is"),Ans.same("x","is")); w.keep(had+CELLS+DIES); w.emit("numbering call c-is p (ws .0) x (ws .1 .1 .1 .0) e l (answer-is x _ is)"); four=w.text()
@@ -253,7 +253,7 @@ else:
     calls(w,"number","to-number x","asked-number x x-is",[],lambda:[w.load(10)],"m","ℕ","u32","‵ ftrue","tt","(x, tt)","m ≡ numberOf x")
     value(w,number("u32","m")); w.to(["toks"]); w.emit("drop ! $ "); w.give(1,[])
     lands_number(w,0,"u32","m"); leaves(w,[0]+filled+[10],had,"returns !","exits c m zs (made h size kind one two bytes room call p said e) (is .1) l"); five=w.text()
-    lemma("the answer's number, and the `return`","numbering",us(filled)+OF+f"(c : Controller) (x : Answer) (zs : List ℕ) → Said call c x zs → length zs ≡ length room → {Ans.is_('x')} → ","numbering call c-is p c x zs said l x-is",6,had+CELLS+DIES,val6,five)
+    lemma("the answer's number, and the `return`","numbering",us(filled)+OF+f"(c : Controller) (x : Answered) (zs : List ℕ) → Said call c x zs → length zs ≡ length room → {Ans.is_('x')} → ","numbering call c-is p c x zs said l x-is",6,had+CELLS+DIES,val6,five)
     lemma("the step","stepping",us([8,11])+OF,"stepping call c-is p",5,start2,val4,four)
     lemma("a call to be made","calling",us([8,11])+f"(n : ℕ) → {E0} → Holds (not (not (eqb n 0))) → ","calling n n-e t",4,start2,val3,three)
     lemma("no call: the judgement is the answer","tested",f"(n : ℕ) → {E0} → n < 2 ^ 32 → ","tested n e n-fits",2,start2,val2,two)
@@ -263,8 +263,8 @@ else:
     nums=[uint_owned(k,n,n+"-fits") for n,k in params if k in WID]
     ASK=lambda ls:"("+" ∷ ".join([EX[l] for l in ls]+["[]"])+")"
     extra+=f"""  -- a call's step
-  abbrev Said : Call → Controller → Answer → List ℕ → Type 0
-  Said call c x zs = (c ≡ doneOf (stepOf h (stepFor call bytes room)) .next) × (x ≡ doneOf (stepOf h (stepFor call bytes room)) .answer) × (zs ≡ roomFor h call room)
+  abbrev Said : Call → Controller → Answered → List ℕ → Type 0
+  Said call c x zs = (c ≡ stepOf h (stepFor call bytes room) .next) × (x ≡ answeredOf (stepOf h (stepFor call bytes room))) × (zs ≡ roomFor h call room)
 
   -- a call that is to be made
   abbrev Called : Call → Type 0
@@ -292,10 +292,10 @@ else:
   asked-step : (call : Call) → {Cal.is_("call")} → ent 𝓤 (⋆ 𝓤 H A {ASK(PASSED)}) ({TRIPLE("step")} .pre (to-step call))
   asked-step call c-is = qed W {ASK(PASSED)} ∵ {ask(PASSED,PASSED[:3],["c",Cal.owned("call","c-is"),"bytes","room"])}
 
-  abbrev to-number : Answer → {TRIPLE("number")} .Ghost
+  abbrev to-number : Answered → {TRIPLE("number")} .Ghost
   to-number x = ((tt, tt, tt, (x, tt), ({Ans.val("x")} ∷ [], tt)), tt)
 
-  asked-number : (x : Answer) → {Ans.is_("x")} → ent 𝓤 (emp 𝓤) ({TRIPLE("number")} .pre (to-number x))
+  asked-number : (x : Answered) → {Ans.is_("x")} → ent 𝓤 (emp 𝓤) ({TRIPLE("number")} .pre (to-number x))
   asked-number x x-is = qed W [] ∵ {ask([],[],[Ans.owned("x","x-is")])}
 
 """
@@ -363,7 +363,7 @@ same-is c vs g = LL.owes T.the-type T′.the-laws c (LL.owed T.the-type T′.the
 call-is : (x : Call) (vs : List Val) → Is {Cal.row()} x vs → {Cal.is_("x")}
 call-is x vs g = subst (Is {Cal.row()} x) ({Cal.tells()} x vs g) g
 
-answer-is : (x : Answer) (vs : List Val) → Is {Ans.row()} x vs → {Ans.is_("x")}
+answer-is : (x : Answered) (vs : List Val) → Is {Ans.row()} x vs → {Ans.is_("x")}
 answer-is x vs g = subst (Is {Ans.row()} x) ({Ans.tells()} x vs g) g
 
 -- the code from where each lemma begins, written out: the function's own pieces are computed anew at each step of a walk

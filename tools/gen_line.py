@@ -5,7 +5,7 @@ sys.path.insert(0,os.path.dirname(os.path.abspath(__file__)))
 from walk import *
 Cal=Decl("Call","Call-row","enum","controller",False)
 Fra=Decl("FrameBytes","Frame-row","struct","lines",False)
-Ans=Decl("Answer","Answer-row","enum","rules",False)
+Ans=Decl("Answered","Answered-row","struct","controller",False)
 Fou=Decl("Found","Found-row","struct","lines",False)
 REFS=["c","room","piece","out"]
 kap=lambda n:"κ" if n=="c" else f"κ-{n}"
@@ -83,7 +83,7 @@ w.to(["ν","ν′","rec′","room′"])
 w.emit("group ! 4 $ use1 W (raw (Step 𝓤 H A at-mem run .pre (to f f-is ν ν′ δ δ′))) (asked f f-is ν ν′ δ δ′) $\n"); w.give(4,["pre"])
 w.emit(f"calls-at ! fm (Step 𝓤 H A at-mem run) known (to f f-is ν ν′ δ δ′) {w.ops([w.load(9),w.part(6,0),w.part(6,1),w.load(11)])} (λ v.\n")
 KS="(ν ∷ [], (ν′ ∷ [], tt))"; AR="(args f f-is ν ν′ δ δ′)"
-w.emit(f"use1 W (later (some (λ (x : Answer). ((‵ (flft (ν ∷ []) fullShare) ⊛ ‵ (flft (ν′ ∷ []) fullShare) ⊛ ‵ ftrue) ⊛ ‵ ({Ans.row()} .own x (v ∷ []))) ⊛ raw (ensured 𝓤 H A step.ended (step.clauses 𝓤 H A at-mem run) {KS} {AR} tt x)))) (id⊢ 𝓤 _) $ await ! tt $ pick ! (λ x.\n")
+w.emit(f"use1 W (later (some (λ (x : Answered). ((‵ (flft (ν ∷ []) fullShare) ⊛ ‵ (flft (ν′ ∷ []) fullShare) ⊛ ‵ ftrue) ⊛ ‵ ({Ans.row()} .own x (v ∷ []))) ⊛ raw (ensured 𝓤 H A step.ended (step.clauses 𝓤 H A at-mem run) {KS} {AR} tt x)))) (id⊢ 𝓤 _) $ await ! tt $ pick ! (λ x.\n")
 SA="Said f (ws .0) x (ws .1 .1 .1 .0)"
 w.emit(f"split ! $ move ! (1 ∷ []) $ use1 W (some (λ (ws : Lasts step.ended {KS} {AR}). ‵ (lasts step.ended {KS} {AR} ws) ⊛ raw (fact 𝓤 ({SA})))) (id⊢ 𝓤 _) $ pick ! (λ ws.\n")
 w.emit(f"split ! $ move ! (1 ∷ []) $ heard ! ({SA}) (λ e. fsplit ! $ move ! (1 ∷ []) $ fsplit ! $ drop ! $ fsplit ! $ drop ! $ fsplit ! $ fsplit ! $ move ! (1 ∷ []) $ feqL ! (λ l.\n"); w.give(1,["fin′","true","last","res"])
@@ -102,7 +102,7 @@ lemma("-- from there: the step","stepped",FOUND,"stepped f s f-is",2,*start,EX,w
 # ---- the five lines
 val2={**val,2:"s-room (length zs)",7:Ans.val("x"),9:"y9",10:"y10",11:"y11"}
 EX2={**EX,"rec":f"‵ ({Rec('κ','γ','c')})","room":f"‵ ({RoomI('κ-room','γ-room','zs','(length zs)')})"}
-AFTER=FOUND+"(c : Controller) (x : Answer) (zs : List ℕ) → Said f c x zs → length zs ≡ length room → "+Ans.is_("x")+" → "
+AFTER=FOUND+"(c : Controller) (x : Answered) (zs : List ℕ) → Said f c x zs → length zs ≡ length room → "+Ans.is_("x")+" → "
 start=(list(w.ctx),val2)
 w.to(["rec"]); w.emit("fsplit3 ! $ drop ! $ "); w.give(1,["obs","bor"]); w.to(["obs","bor","tok"]); w.nl()
 w.emit("opens ! tt T.the-row {h = c} b o (λ vs. spelt ! T.the-row (Is T.the-row) (shows 𝓤 H A T.the-row) (LL.vals T.the-type T′.the-laws) (LL.tells T.the-type T′.the-laws) fullShare c vs b o $\nmove ! (1 ∷ []) $ "+Con.peeks("c","(mach c ∷ [])")+"(λ was. move ! (1 ∷ 0 ∷ []) $\n")
@@ -112,8 +112,8 @@ w.emit("closes ! tt T.the-row c (mach c ∷ []) b o $\n"); w.give(5,["obs","bor"
 w.emit("use0 W (raw (Lines 𝓤 H A at-mem run .pre (to-lines c x))) (asked-lines c was x x-is) $\n"); w.give(0,["pre"])
 w.emit(f"calls-at ! fm (Lines 𝓤 H A at-mem run) known-lines (to-lines c x) {w.ops([w.load(12),w.load(7),w.part(5,5)])} (λ v.\n")
 w.emit("use1 W (later (some (λ (irq : ℕ). (‵ ftrue ⊛ ‵ (u8 .own irq (v ∷ []))) ⊛ raw (ensured 𝓤 H A lines.ended (lines.clauses 𝓤 H A at-mem run) tt (args-lines c x) tt irq)))) (id⊢ 𝓤 _) $ await ! tt $ pick ! (λ irq.\n")
-w.emit("split ! $ move ! (1 ∷ []) $ use1 W (some (λ (ws : Lasts lines.ended tt (args-lines c x)). ‵ (lasts lines.ended tt (args-lines c x) ws) ⊛ raw (fact 𝓤 (irq ≡ linesAfter c x (t .irq))))) (id⊢ 𝓤 _) $ pick ! (λ ws.\n")
-w.emit("split ! $ move ! (1 ∷ []) $ heard ! (irq ≡ linesAfter c x (t .irq)) (λ i. drop ! $ split ! $ drop ! $ peeks ! u8 (Is u8) (shows 𝓤 H A u8) irq (v ∷ []) (λ is. drop ! $\n"); w.give(1,[])
+w.emit("split ! $ move ! (1 ∷ []) $ use1 W (some (λ (ws : Lasts lines.ended tt (args-lines c x)). ‵ (lasts lines.ended tt (args-lines c x) ws) ⊛ raw (fact 𝓤 (irq ≡ linesAfter c (x .answer) (t .irq))))) (id⊢ 𝓤 _) $ pick ! (λ ws.\n")
+w.emit("split ! $ move ! (1 ∷ []) $ heard ! (irq ≡ linesAfter c (x .answer) (t .irq)) (λ i. drop ! $ split ! $ drop ! $ peeks ! u8 (Is u8) (shows 𝓤 H A u8) irq (v ∷ []) (λ is. drop ! $\n"); w.give(1,[])
 w.land(8,"byte","(uint-lawful 𝓤 H A W w8 .typed irq _ is .0)","(ap only (is .0))")
 second=["obs","bor"]+first[1:]
 w.keep(second+CELLS+DIES)
@@ -122,7 +122,7 @@ lemma("-- from the step's end: the five lines","lined",us([9,10,11])+AFTER,"line
 # ---- the answer
 val3={**val2,8:"vint w8 irq",12:"y12"}
 EX3={**EX2,"obs":"‵ (fobs γ (T.the-row .coded .code c))","bor":"‵ (fbor κ (Body (mem T.the-row) b o γ))"}
-AFTER3=FOUND+"(c : Controller) (x : Answer) (zs : List ℕ) (irq : ℕ) → Said f c x zs → irq ≡ linesAfter c x (t .irq) → length zs ≡ length room → "+Ans.is_("x")+" → irq < 2 ^ 8 → "
+AFTER3=FOUND+"(c : Controller) (x : Answered) (zs : List ℕ) (irq : ℕ) → Said f c x zs → irq ≡ linesAfter c (x .answer) (t .irq) → length zs ≡ length room → "+Ans.is_("x")+" → irq < 2 ^ 8 → "
 start=(list(w.ctx),val3)
 w.again(2,13,14,"(now-room zs l)"); w.again(4,15,16,"out-room")
 w.to(["piece"]); w.emit(TWICE); w.give(1,["piece","piece′"])
@@ -229,7 +229,7 @@ use denote.Triple.Table.{{entered, cited}}
 use denote.Triple.Walked.{{says, Stays, stay-ref, stay-none, stay-none-slice, gave-slice, walkOf, AllGo, goes-none, goes-none-slice, goes-gave-slice, goes-ref, Walks, ends-at, walked, walk-meets}}
 use denote.Exit.{{yes}}
 use Rattle.controller.specs.Session.{{stepOf}}
-use Rattle.controller.specs.Calls.{{doneOf, stepFor, roomFor}}
+use Rattle.controller.specs.Calls.{{answeredOf, stepFor, roomFor}}
 use Rattle.lines.specs.Grammar.{{bytesIn}}
 use {spec}.CodeLoop.{{linesAfter, soughtOf, Turned, Turns}}
 use {spec}.LoopLaws.{{turns}}
@@ -291,7 +291,7 @@ abbrev mach : Controller → Val
 mach = LL.val T.the-type T′.the-laws
 
 -- the machine value that a value is at is its own
-answer-is : (x : Answer) (vs : List Val) → Is {Ans.row()} x vs → {Ans.is_("x")}
+answer-is : (x : Answered) (vs : List Val) → Is {Ans.row()} x vs → {Ans.is_("x")}
 answer-is x vs g = subst (Is {Ans.row()} x) ({Ans.tells()} x vs g) g
 
 found-is : (f : Found) (vs : List Val) → Is {Fou.row()} f vs → {Fou.is_("f")}
@@ -329,8 +329,8 @@ module _ {G} (W : Given 𝓤 H A) {AM} ({" ".join(kap(n) for n in REFS)} : Lft) 
   Out′ = MutSlice (named 3) κ-out u8 .own out-ref (s-out ∷ [])
 
   -- what `step` says, and what is to be said
-  abbrev Said : Found → Controller → Answer → List ℕ → Type 0
-  Said f c x zs = (c ≡ doneOf (stepOf h (stepFor (f .call) (bytesIn (f .frame)) room)) .next) × (x ≡ doneOf (stepOf h (stepFor (f .call) (bytesIn (f .frame)) room)) .answer) × (zs ≡ roomFor h (f .call) room)
+  abbrev Said : Found → Controller → Answered → List ℕ → Type 0
+  Said f c x zs = (c ≡ stepOf h (stepFor (f .call) (bytesIn (f .frame)) room) .next) × (x ≡ answeredOf (stepOf h (stepFor (f .call) (bytesIn (f .frame)) room))) × (zs ≡ roomFor h (f .call) room)
 
   abbrev Says : Controller → At → List ℕ → List ℕ → Type 0
   Says c r zs os = Turns h room piece out t r c zs os
@@ -383,23 +383,23 @@ module _ {G} (W : Given 𝓤 H A) {AM} ({" ".join(kap(n) for n in REFS)} : Lft) 
     asked = qed W Asked ∵ {asked}
 
   -- the same of `lines_after`
-  abbrev args-lines : Controller → Answer → Controller × (Answer × (ℕ × Unit {{0}}))
+  abbrev args-lines : Controller → Answered → Controller × (Answered × (ℕ × Unit {{0}}))
   args-lines c x = (c, (x, (t .irq, tt)))
 
-  abbrev to-lines : Controller → Answer → Lines 𝓤 H A at-mem run .Ghost
+  abbrev to-lines : Controller → Answered → Lines 𝓤 H A at-mem run .Ghost
   to-lines c x = ((tt, tt, tt, args-lines c x, (mach c ∷ [], ({Ans.val("x")} ∷ [], (vint w8 (t .irq) ∷ [], tt)))), tt)
 
-  asked-lines : (c : Controller) → Is T.the-row c (mach c ∷ []) → (x : Answer) → {Ans.is_("x")} → ent 𝓤 (emp 𝓤) (Lines 𝓤 H A at-mem run .pre (to-lines c x))
+  asked-lines : (c : Controller) → Is T.the-row c (mach c ∷ []) → (x : Answered) → {Ans.is_("x")} → ent 𝓤 (emp 𝓤) (Lines 𝓤 H A at-mem run .pre (to-lines c x))
   asked-lines c was x x-is = qed W [] ∵ nothing ! $ nothing ! $ {uint_owned("u8","t .irq","irq-is")}fjoin ! $ {Ans.owned("x","x-is")}fjoin ! $ {Con.owned("c","was")}fjoin ! $ move ! (1 ∷ 0 ∷ []) $ join ! $ nothing ! $ move ! (1 ∷ 0 ∷ []) $ join ! $ done !
 
   -- the same of `turned`
-  abbrev args-turned : Found → Answer → List ℕ → ℕ → RefT (List ℕ) × (RefT (List ℕ) × (RefT (List ℕ) × (At × (Found × (Answer × (ℕ × Unit {{0}}))))))
+  abbrev args-turned : Found → Answered → List ℕ → ℕ → RefT (List ℕ) × (RefT (List ℕ) × (RefT (List ℕ) × (At × (Found × (Answered × (ℕ × Unit {{0}}))))))
   args-turned f x zs irq = (room-ref γ-room zs, (piece-ref, (out-ref, (t, (f, (x, (irq, tt)))))))
 
-  abbrev to-turned : Found → Answer → List ℕ → ℕ → Turn 𝓤 H A at-mem run .Ghost
+  abbrev to-turned : Found → Answered → List ℕ → ℕ → Turn 𝓤 H A at-mem run .Ghost
   to-turned f x zs irq = (((κ-room, (κ-piece, (κ-out, tt))), (q-room, (q-piece, (q-out, tt))), tt, args-turned f x zs irq, {tup(["s-room (length zs) ∷ []","s-piece ∷ []","s-out ∷ []",Tur.val("t")+" ∷ []",Fou.val("f")+" ∷ []",Ans.val("x")+" ∷ []","vint w8 irq ∷ []"])}), tt)
 
-  asked-turned : (f : Found) → {Fou.is_("f")} → (x : Answer) (zs : List ℕ) (irq : ℕ) → {Ans.is_("x")} → irq < 2 ^ 8 → ent 𝓤 (⋆ 𝓤 H A {ASK3}) (Turn 𝓤 H A at-mem run .pre (to-turned f x zs irq))
+  asked-turned : (f : Found) → {Fou.is_("f")} → (x : Answered) (zs : List ℕ) (irq : ℕ) → {Ans.is_("x")} → irq < 2 ^ 8 → ent 𝓤 (⋆ 𝓤 H A {ASK3}) (Turn 𝓤 H A at-mem run .pre (to-turned f x zs irq))
   asked-turned f f-is x zs irq x-is irq-fits = qed W {ASK3} ∵ {asked3}
 
   module _ (C : Calls 𝓤 H) (Λ : Loops 𝓤 H) (fm : FmC 𝓤 H (W .laws) C) (known-seek : Triple 𝓤 (C #seek) (Seek 𝓤 H A at-mem run)) (known : Triple 𝓤 (C #step) (Step 𝓤 H A at-mem run)) (known-lines : Triple 𝓤 (C #lines) (Lines 𝓤 H A at-mem run)) (known-turned : Triple 𝓤 (C #turned) (Turn 𝓤 H A at-mem run)) where

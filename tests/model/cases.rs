@@ -8,7 +8,7 @@ const NONE: u8 = 0x10;
 
 pub type Test = fn(&Taken) -> bool;
 
-pub const CASES: [(&str, Test); 54] = [
+pub const CASES: [(&str, Test); 61] = [
     (
         "held off though a later buffer carries the identifier",
         held_off_with_another,
@@ -36,6 +36,27 @@ pub const CASES: [(&str, Test); 54] = [
     }),
     ("not accepted with rejection mask $FF", |t| {
         filtered(t) && t.before.rejection.mask == 0xFF
+    }),
+    ("looked up where no buffer is to be examined", |t| {
+        looks_up(t) && t.before.receive == 0
+    }),
+    ("found in the first buffer examined, above a FIFO", |t| {
+        finds(t) && t.looked == 1 && t.before.fsiz > 0
+    }),
+    ("found behind others, above a FIFO", |t| {
+        finds(t) && t.looked > 1 && t.before.fsiz > 0
+    }),
+    ("found behind others, with no FIFO", |t| {
+        finds(t) && t.looked > 1 && t.before.fsiz == 0
+    }),
+    ("found in the last of sixteen", |t| {
+        finds(t) && t.looked == 16
+    }),
+    ("none of sixteen carries the identifier", |t| {
+        looks_up(t) && !finds(t) && t.looked == 16
+    }),
+    ("none of some carries the identifier, above a FIFO", |t| {
+        looks_up(t) && !finds(t) && t.looked > 0 && t.before.fsiz > 0
     }),
     ("queued in place 0 again", |t| {
         t.answer == Answer::Queued(0) && t.before.fifo_oldest > 0
@@ -197,6 +218,16 @@ fn held_off_with_another(t: &Taken) -> bool {
     };
     let carries = |n: usize| t.before.identifiers[n] == bytes[0] && t.before.receive >> n & 1 == 1;
     (usize::from(buffer) + 1..16).any(carries)
+}
+
+/// A frame that has a buffer, which may be locked.
+fn finds(t: &Taken) -> bool {
+    matches!(t.answer, Answer::Stored(_) | Answer::HeldOff(_))
+}
+
+/// A frame whose buffer is looked for.
+pub fn looks_up(t: &Taken) -> bool {
+    finds(t) || queues(t) || matches!(t.answer, Answer::Overrun | Answer::Unmatched)
 }
 
 fn queues(t: &Taken) -> bool {

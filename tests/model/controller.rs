@@ -105,6 +105,22 @@ pub enum Answer {
 }
 use Answer::{Ignored, Refused};
 
+/// A step's answer, and how many dedicated receive buffers were examined for it (W8): 0 but for a frame that is
+/// looked up. Four bytes, so that it is returned as one number.
+#[derive(Clone, Copy, PartialEq, Eq, Debug)]
+#[repr(align(4))]
+pub struct Outcome {
+    pub answer: Answer,
+    pub looked: u8,
+}
+
+impl From<Answer> for Outcome {
+    #[inline(always)]
+    fn from(answer: Answer) -> Outcome {
+        Outcome { answer, looked: 0 }
+    }
+}
+
 /// The locked buffers of one kind; a contender stands only behind a holder.
 #[derive(Clone, Copy, PartialEq, Eq, Debug)]
 pub struct Locks {
@@ -261,14 +277,14 @@ impl Controller {
     }
 
     /// One whole step. Only an answer of `Sent` touches the room.
-    pub fn step(&mut self, step: &Step, room: &mut [u8]) -> Answer {
+    pub fn step(&mut self, step: &Step, room: &mut [u8]) -> Outcome {
         self.step_inline(step, room)
     }
 
     /// The same where the step has just been read: the two matches become one.
     #[inline(always)]
-    pub fn step_inline(&mut self, step: &Step, room: &mut [u8]) -> Answer {
-        match *step {
+    pub fn step_inline(&mut self, step: &Step, room: &mut [u8]) -> Outcome {
+        let answer = match *step {
             Step::Reset => {
                 *self = Controller::new();
                 Answer::Ok
@@ -278,10 +294,11 @@ impl Controller {
             Step::Sync(pulse) => self.sync(pulse),
             Step::SyncDue => self.sync_due(),
             Step::Slot(slot) => self.slot(slot, room),
-            Step::Frame(good, bytes) => self.frame(good, bytes),
+            Step::Frame(good, bytes) => return self.frame(good, bytes),
             Step::Fault(fault) => self.fault(fault),
             Step::Timeout => self.timeout(),
-        }
+        };
+        answer.into()
     }
 
     /// The five interrupt lines: 4 FIFO, 3 receive, 2 sync, 1 XSYNC, 0 general.
@@ -689,32 +706,41 @@ impl Controller {
         Answer::Ok
     }
 
-    fn frame(&mut self, good: bool, bytes: &[u8]) -> Answer {
+    fn frame(&mut self, good: bool, bytes: &[u8]) -> Outcome {
         let &[identifier, length, ref data @ ..] = bytes else {
-            return Refused(11);
+            return Refused(11).into();
         };
         if data.len() != data_length(length) as usize {
-            return Refused(11);
+            return Refused(11).into();
         }
         if self.initialization {
-            return Ignored;
+            return Ignored.into();
         }
         if self.asleep {
-            return self.wake_by_bus();
+            return self.wake_by_bus().into();
         }
         if !self.synchronized {
-            return Ignored;
+            return Ignored.into();
         }
         if !good || identifier == 0 {
             self.events_07 |= ERRIF;
-            return Answer::BadFrame;
+            return Answer::BadFrame.into();
         }
         self.last_identifier = self.last_identifier.max(identifier);
         // The lowest is the frame's buffer even if it is locked: no other match takes the frame then.
         let buffer = self.carrying(self.receive, identifier).trailing_zeros() as u8;
-        if buffer == NONE {
-            return self.queue(identifier, data);
-        }
+        let (answer, looked) = if buffer == NONE {
+            let all = self.receive.count_ones() as u8;
+            (self.queue(identifier, data), all)
+        } else {
+            // The layout is lawful here: all from FSIZ to this one are dedicated receive buffers.
+            let up_to_it = buffer + 1 - self.fsiz;
+            (self.deliver(buffer, identifier, data), up_to_it)
+        };
+        Outcome { answer, looked }
+    }
+
+    fn deliver(&mut self, buffer: u8, identifier: u8, data: &[u8]) -> Answer {
         if self.locked & bit(buffer) != 0 {
             return Answer::HeldOff(buffer);
         }

@@ -1,9 +1,9 @@
 //! Counts of what the steps of a run reached: a run that never reached a case says nothing of it.
 
 use crate::call::{Call, FRAME, ROOM};
-use crate::cases::{can_be_written, CASES};
-use crate::controller::{Answer, Step};
-use crate::library::{number, SIZE, UNUSED, WORDS};
+use crate::cases::{can_be_written, looks_up, CASES};
+use crate::controller::{Answer, Step, BUFFERS};
+use crate::library::{number, word, SIZE, UNUSED, WORDS};
 use crate::pair::Taken;
 
 const REGISTERS: usize = 0x60;
@@ -19,6 +19,8 @@ pub struct Counts {
     /// Frames and slots' rooms by size.
     frames: [u64; FRAME + 1],
     rooms: [u64; ROOM + 1],
+    /// Frames that were looked up, by the dedicated receive buffers examined.
+    looked: [u64; BUFFERS + 1],
     cases: [u64; CASES.len()],
     unknown: u64,
     wrong_size: u64,
@@ -34,6 +36,7 @@ impl Counts {
             written: [0; REGISTERS],
             frames: [0; FRAME + 1],
             rooms: [0; ROOM + 1],
+            looked: [0; BUFFERS + 1],
             cases: [0; CASES.len()],
             unknown: 0,
             wrong_size: 0,
@@ -50,7 +53,7 @@ impl Counts {
     }
 
     fn add_step(&mut self, call: &Call, taken: &Taken) {
-        self.words[(number(taken.answer) >> 8) as usize] += 1;
+        self.words[word(number(taken.answer.into()))] += 1;
         match (taken.step, taken.answer) {
             (_, Answer::Refused(number)) => self.refusals[number as usize - 1] += 1,
             (Step::Read(address), _) => self.read[address as usize] += 1,
@@ -61,6 +64,9 @@ impl Counts {
             Step::Frame(..) => self.frames[call.frame_size] += 1,
             Step::Slot(_) => self.rooms[call.room_size] += 1,
             _ => {}
+        }
+        if looks_up(taken) {
+            self.looked[taken.looked as usize] += 1;
         }
         for (count, (_, test)) in self.cases.iter_mut().zip(CASES) {
             *count += u64::from(test(taken));
@@ -90,6 +96,7 @@ impl Counts {
         });
         group("frames by size", &self.frames, &|n| n.to_string());
         group("rooms by size", &self.rooms, &|n| n.to_string());
+        group("looked", &self.looked, &|n| n.to_string());
         group("no step", &[self.unknown, self.wrong_size], &|n| {
             ["unknown", "wrong size"][n].to_string()
         });

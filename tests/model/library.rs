@@ -1,7 +1,7 @@
 //! The C interface of the static library (crate hevrukan), as a Rust caller sees it: the record field by
 //! field, the four functions, and the numbers of calls and answers.
 
-use crate::controller::{Answer, Fault, Pulse, Step, BUFFERS, CONTENTS};
+use crate::controller::{Answer, Fault, Outcome, Pulse, Step, BUFFERS, CONTENTS};
 use std::fmt;
 
 /// A list of named numbers: what a comparison names when two records differ.
@@ -106,7 +106,10 @@ record!(Record {
     rows: [[u8; CONTENTS]; BUFFERS]
 });
 
-pub const SIZE: usize = size_of::<Record>();
+/// The bytes that the fields take. Before W8 it was all of a record.
+pub const FIELDS: usize = size_of::<Record>();
+/// The bytes of a record: two behind the fields are nobody's.
+pub const SIZE: usize = FIELDS + 2;
 
 extern "C" {
     fn hevrukan_size() -> usize;
@@ -179,9 +182,9 @@ pub fn numbers<'a>(step: &Step<'a>) -> (Numbers, &'a [u8]) {
     )
 }
 
-/// An answer as the library says it: 256 times its word, and the detail.
-pub fn number(answer: Answer) -> u32 {
-    let (word, detail) = match answer {
+/// An outcome as the library says it: 65,536 times the buffers examined, 256 times the word, and the detail.
+pub fn number(outcome: Outcome) -> u32 {
+    let (word, detail) = match outcome.answer {
         Answer::Ok => (0, 0),
         Answer::Read(value) => (1, value),
         Answer::Stored(buffer) => (2, buffer),
@@ -198,19 +201,26 @@ pub fn number(answer: Answer) -> u32 {
         Answer::Woke => (13, 0),
         Answer::NotSent => (14, 0),
     };
-    256 * word + u32::from(detail)
+    65_536 * u32::from(outcome.looked) + 256 * word + u32::from(detail)
 }
 
-/// An answer's number that shows its word and detail.
+/// The number of an answer's word.
+pub fn word(number: u32) -> usize {
+    (number >> 8 & 0xFF) as usize
+}
+
+/// An answer's number that shows its word, its detail and the buffers examined.
 #[derive(PartialEq)]
 pub struct Said(pub u32);
 
 impl fmt::Debug for Said {
     fn fmt(&self, out: &mut fmt::Formatter) -> fmt::Result {
-        let word = WORDS
-            .get(self.0 as usize >> 8)
-            .unwrap_or(&"no word of document 01");
-        write!(out, "{} ({word}, detail {:02X})", self.0, self.0 & 0xFF)
+        let word = WORDS.get(word(self.0)).unwrap_or(&"no word of document 01");
+        let (number, detail, looked) = (self.0, self.0 & 0xFF, self.0 >> 16);
+        write!(
+            out,
+            "{number} ({word}, detail {detail:02X}, looked {looked})"
+        )
     }
 }
 
@@ -220,7 +230,7 @@ pub fn size() -> usize {
     unsafe { hevrukan_size() }
 }
 
-/// Bytes before and after a record that nobody may write.
+/// Bytes before and after a record that nobody may write; nor may the two behind its fields be written.
 const GUARD: usize = 16;
 const GUARDED: u8 = 0xC3;
 
@@ -234,7 +244,7 @@ impl Library {
     /// A record of such bytes, not reset yet.
     pub fn holding(byte: u8) -> Library {
         let mut bytes = [GUARDED; GUARD + SIZE + GUARD];
-        bytes[GUARD..GUARD + SIZE].fill(byte);
+        bytes[GUARD..GUARD + FIELDS].fill(byte);
         Library { bytes }
     }
 
@@ -243,7 +253,7 @@ impl Library {
     }
 
     pub fn guarded(&self) -> bool {
-        let (before, after) = (&self.bytes[..GUARD], &self.bytes[GUARD + SIZE..]);
+        let (before, after) = (&self.bytes[..GUARD], &self.bytes[GUARD + FIELDS..]);
         before.iter().chain(after).all(|&byte| byte == GUARDED)
     }
 

@@ -137,6 +137,8 @@ pub struct Taken<'a> {
     pub after: Controller,
     pub step: Step<'a>,
     pub answer: Answer,
+    /// The dedicated receive buffers examined for it.
+    pub looked: u8,
 }
 
 pub struct Pair {
@@ -180,13 +182,14 @@ impl Pair {
                 None
             }
             Ok(step) => {
-                let said = self.model.step(&step, &mut wanted[..call.room_size]);
-                same("the answer", Said(answer), Said(number(said)))?;
+                let outcome = self.model.step(&step, &mut wanted[..call.room_size]);
+                same("the answer", Said(answer), Said(number(outcome)))?;
                 Some(Taken {
                     before,
                     after: self.model,
                     step,
-                    answer: said,
+                    answer: outcome.answer,
+                    looked: outcome.looked,
                 })
             }
         };

@@ -1,11 +1,12 @@
 //! The report of a replay: its heading, and the row of each line's answer.
 
-use crate::controller::{Answer, Pulse, CONTENTS};
+use crate::controller::{Answer, Outcome, Pulse, BUFFERS, CONTENTS};
 use crate::text::PAIRS;
 use std::io::{self, Write};
 
-const HEADING: &[u8] = b"line\tanswer\tdetail\tirq\n";
-/// Room for any row: a number, a word stored whole, the digits of a frame and the lines' take 8 + 16 + 28 + 4 at most.
+const HEADING: &[u8] = b"line\tanswer\tdetail\tirq\tlooked\n";
+/// Room for any row: a number, a word stored whole, the digits of a frame, the lines' and the count's take
+/// 8 + 16 + 28 + 4 + 4 at most.
 const ROW: usize = 64;
 /// Bytes that are passed on at a time, with up to a row more.
 const BLOCK: usize = 1 << 18;
@@ -49,6 +50,32 @@ fn word_of(answer: Option<Answer>) -> &'static Word {
         None => const { &word(b"\tunread\t") },
     }
 }
+
+/// How many buffers were examined, in decimal, as a row ends with it: the first `size` bytes.
+struct Looked {
+    text: [u8; 4],
+    size: u8,
+}
+
+/// Every count that there is.
+static LOOKED: [Looked; BUFFERS + 1] = {
+    const fn looked(count: u8) -> Looked {
+        let digit = b'0' + count % 10;
+        if count < 10 {
+            let text = [digit, b'\n', 0, 0];
+            return Looked { text, size: 2 };
+        }
+        let text = [b'0' + count / 10, digit, b'\n', 0];
+        Looked { text, size: 3 }
+    }
+    let mut all = [const { looked(0) }; BUFFERS + 1];
+    let mut count = 1;
+    while count <= BUFFERS {
+        all[count] = looked(count as u8);
+        count += 1;
+    }
+    all
+};
 
 /// A line number as decimal digits, the last one in the lowest byte, counted up in place: cheaper than a
 /// division for each row.
@@ -147,15 +174,17 @@ impl<W: Write> Rows<W> {
         }
     }
 
-    /// Adds the row of the next line: its answer, `None` if it is unread, and the five interrupt lines.
+    /// Adds the row of the next line: its outcome, `None` if it is unread, and the five interrupt lines.
     #[inline(always)]
     pub fn put(
         &mut self,
-        answer: Option<Answer>,
+        outcome: Option<Outcome>,
         room: &[u8; CONTENTS],
         irq: u8,
     ) -> io::Result<()> {
         self.number.count();
+        let answer = outcome.map(|outcome| outcome.answer);
+        let looked = &LOOKED[outcome.map_or(0, |outcome| outcome.looked) as usize];
         let word = word_of(answer);
         if self.end > BLOCK {
             self.pass_on()?;
@@ -169,7 +198,8 @@ impl<W: Write> Rows<W> {
         row.put(word.text, word.size);
         row.put_detail(answer, room);
         let [high, low] = PAIRS[irq as usize];
-        row.put([b'\t', high, low, b'\n'], 4);
+        row.put([b'\t', high, low, b'\t'], 4);
+        row.put(looked.text, looked.size);
         self.end += row.size;
         Ok(())
     }

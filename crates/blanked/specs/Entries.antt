@@ -74,7 +74,7 @@ entriesOf ls = entriesFrom resetState (stepsAt ls)
 -- ---- its rows
 
 unfoldable pub entryRow : ℕ → Entry → List ℕ
-entryRow n (stepped r) = rowOf n (r .word) (r .detail) (r .lines)
+entryRow n (stepped r) = rowOf n (r .word) (r .detail) (r .lines) (r .looked)
 entryRow n (unread irq) = unreadRow n irq
 
 -- numbered from n on

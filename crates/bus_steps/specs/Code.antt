@@ -32,6 +32,7 @@ verdictOf ms (say a) = storing ms a
 verdictOf ms (show n j) = Say (Value 0)
 verdictOf ms (send n) = Send n
 
+-- The count of W8 is no part of it: answer and state tell it (`lookedBy`).
 abbrev pub rulingOf : Plan → Ruling
 rulingOf p = record { next = p .control; verdict = verdictOf (p .moves) (p .reply) }
 

@@ -103,13 +103,14 @@ module _ (c : Control) (i : ℕ) where
         control = withBuffers (raiseLast c i) (withIflg (c .buffers) (putBit (c .buffers .iflg) n true));
         moves = store n ∷ [];
         reply = say (Stored n);
+        looked = 0;
       })
   unfolding marked risen entered pick raiseLast
   stored-ruled n h =
       simp (or-zero-r, or-by (c .buffers .iflg) (maskOf (λ k. eqb k n)) (bitOf (c .buffers .iflg)) (λ k. eqb k n) (own (c .buffers .iflg) h) refl ∙ put-with (c .buffers .iflg) n)
 
   pub queued-ruled : (n : ℕ) → c .fifo .count < c .config .fsiz → ruledBy c i (queued n)
-      ≡ rulingOf (record { control = withFifo (raiseLast c i) (withEntry c); moves = store n ∷ []; reply = say (Queued n) })
+      ≡ rulingOf (record { control = withFifo (raiseLast c i) (withEntry c); moves = store n ∷ []; reply = say (Queued n); looked = 0 })
   unfolding marked risen entered raiseLast
   queued-ruled n h = simp (or-zero-r, pick-true, lt-ltb (c .fifo .count) (c .config .fsiz) h)
 

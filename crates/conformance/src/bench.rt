@@ -61,17 +61,25 @@ fn rest(text: &[u8], end: usize) {
 }
 
 // The row of an answer as the replay text has it, behind the number of its line; sent is a sent frame's bytes.
-fn row(answer: Answer, sent: &[u8], irq: u8) {
+fn row(answer: Answer, sent: &[u8], irq: u8, looked: u8) {
     let mut text = [0u8; 64];
-    let end = report::row(&mut text, 0, report::number_of(1), answer, sent, irq);
+    let end = report::row(
+        &mut text,
+        0,
+        report::number_of(1),
+        answer,
+        sent,
+        irq,
+        looked,
+    );
     rest(&text, end);
 }
 
 // The row of a sent frame, which is the room's first k bytes.
-fn sent(room: &[u8], k: u8, irq: u8) {
+fn sent(room: &[u8], k: u8, irq: u8, looked: u8) {
     let n = k as usize;
     if n <= room.len() {
-        row(Answer::Sent(k), &room[..n], irq);
+        row(Answer::Sent(k), &room[..n], irq, looked);
     }
 }
 
@@ -79,10 +87,11 @@ fn sent(room: &[u8], k: u8, irq: u8) {
 fn print(d: Done, room: &[u8]) -> Controller {
     let answer = d.answer;
     let next = d.next;
+    let looked = d.looked;
     let irq = next.lines();
     match answer {
-        Answer::Sent(k) => sent(room, k, irq),
-        _ => row(answer, b"", irq),
+        Answer::Sent(k) => sent(room, k, irq, looked),
+        _ => row(answer, b"", irq, looked),
     }
     next
 }

@@ -25,8 +25,8 @@ use Rattle.controller.specs.declared.Controller.{Controller}
 use Rattle.controller.specs.Carry.{heads, rowAt, moveAll, carry}
 use Rattle.controller.specs.Session.{stepOf}
 use Rattle.controller.specs.Calls.{doneOf}
-use Rattle.controller.specs.Code.{answered, changed, slotRuling, rowIndex, bytesAt, rowBytes, slotChange, roomBy, roomSent}
-use Rattle.controller.specs.CodeLaws.{row-own, says-only, by-plan, slotPlan, slot-sized, slot-refused, slot-room}
+use Rattle.controller.specs.Code.{answered, unlooked, toldOf, changed, slotRuling, rowIndex, bytesAt, rowBytes, slotChange, roomBy, roomSent}
+use Rattle.controller.specs.CodeLaws.{row-own, unlooked-told, says-only, by-plan, slotPlan, slot-sized, slot-refused, slot-room}
 
 -- ---- a frame's size
 
@@ -94,11 +94,11 @@ slot-sends c sixteen i room = by-test (ltb (length room) 14) small large ∙ slo
 
 module _ (c : Controller) (sixteen : length (c .rows) ≡ 16) (i : ℕ) (room : List ℕ) where
   slot-answers : (row : Contents) (p : Plan) → SlotPlan p → row ≡ rowAt (c .rows) (rowIndex (rulingOf p .verdict)) →
-      changed c (slotChange (rulingOf p) row) ≡ doneOf (carry (slot i room) (c .rows) p)
+      changed c (slotChange (rulingOf p) row) ≡ toldOf (carry (slot i room) (c .rows) p)
   unfolding carry moveAll slotChange
-  slot-answers row p (says d a) e = says-only c d a
+  slot-answers row p (says d a u) e = says-only c d (unlooked a) ∙ unlooked-told _ a u
   slot-answers row p (sends d n) e =
-      says-only c d _
+      says-only c d _ ∙ unlooked-told _ (Sent _) refl
       ∙ ap (λ (x : List ℕ). answered (record { control = d; rows = c .rows }) (Sent (length x)))
       (ap (λ (x : List ℕ). frameOf (record { bytes = x })) (row-bytes (c .rows) n row e) ∙ frame-row (c .rows) n sixteen)
 

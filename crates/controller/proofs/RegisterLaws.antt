@@ -29,7 +29,7 @@ use Rattle.controller.specs.declared.Controller.{Controller}
 use Rattle.writes.specs.Code.{control-at}
 use Rattle.controller.specs.Session.{stepOf}
 use Rattle.controller.specs.Calls.{doneOf}
-use Rattle.controller.specs.Code.{saying, changed, holderIn, holderOf, valueIn, registerValue, changeIn, registerChange, controlChange, writeChange}
+use Rattle.controller.specs.Code.{unlooked, saying, changed, holderIn, holderOf, valueIn, registerValue, changeIn, registerChange, controlChange, writeChange}
 use Rattle.controller.specs.AccessLaws.{write-changes}
 use Rattle.controller.proofs.Controller.{the-type as the-controller}
 
@@ -106,14 +106,14 @@ module _ (c : Control) (row : Contents) where
   unfolding registerValue
   other-value r h = region-value (regionOf r) (valueOf c r) _ (tag-region r) h
 
-  region-change : (d : Control) (g : Region) (v t : ℕ) → tagged g t → OneOf allButWritable t → saying d Ok ≡ changeIn c d row g v
+  region-change : (d : Control) (g : Region) (v t : ℕ) → tagged g t → OneOf allButWritable t → saying d (unlooked Ok) ≡ changeIn c d row g v
   unfolding tagged
   region-change d (sendPlace p) v t e h = left-out allButWritable t 18 tt e h
   region-change d (receivePlace p) v t e h = left-out allButWritable t 19 tt e h
   region-change d (fifoPlace p) v t e h = refl
   region-change d elsewhere v t e h = refl
 
-  pub other-change : (d : Control) (r : Register) (v : ℕ) → OneOf allButWritable (tagOf the-register r) → saying d Ok ≡ registerChange c d r v row
+  pub other-change : (d : Control) (r : Register) (v : ℕ) → OneOf allButWritable (tagOf the-register r) → saying d (unlooked Ok) ≡ registerChange c d r v row
   unfolding registerChange
   other-change d r v h = region-change d (regionOf r) v _ (tag-region r) h
 

@@ -30,8 +30,8 @@ use Rattle.controller.specs.Carry.{heads, rowAt, moveAll, answerOf, carr
 use Rattle.controller.specs.Session.{stepOf}
 use Rattle.controller.specs.ViewLaws.{head-at}
 use Rattle.controller.specs.Calls.{doneOf}
-use Rattle.controller.specs.Code.{answered, changed, holderIn, holderOf, windowRow, windowByte, valueIn, registerValue, readAnswer, writePlace, windowChange, changeIn, registerChange, writeChange}
-use Rattle.controller.specs.CodeLaws.{step-plain, by-plan, plain-done, row-own, says-only, puts-row}
+use Rattle.controller.specs.Code.{answered, unlooked, staying, toldOf, changed, holderIn, holderOf, windowRow, windowByte, valueIn, registerValue, readAnswer, writePlace, windowChange, changeIn, registerChange, writeChange}
+use Rattle.controller.specs.CodeLaws.{step-plain, step-told, by-plan, plain-done, row-own, unlooked-told, says-only, puts-row}
 
 -- ---- register reads
 
@@ -109,26 +109,27 @@ module _ (c : Controller) (sixteen : length (c .rows) ≡ 16) (a : ℕ) where
       never : _≡_ {A = ℕ} 1 0 → ⊥
       never q = omega arith
 
-  read-plan : readRefusal (c .control) a ≡ 0 → stepOf c (read a) ≡ carry (read a) (c .rows) (record { control = c .control; moves = []; reply = readReply (c .control) (heads (c .rows)) (registerAt a) })
+  read-plan : readRefusal (c .control) a ≡ 0 → stepOf c (read a) ≡ carry (read a) (c .rows) (record { control = c .control; moves = []; reply = readReply (c .control) (heads (c .rows)) (registerAt a); looked = 0 })
   unfolding decide refusal act pick
   read-plan e = step-plain c (read a) ∙ ap (carry (read a) (c .rows)) (simp e)
 
   read-accepted : readRefusal (c .control) a ≡ 0 → doneOf (stepOf c (read a)) ≡ answered c (Value (registerValue (c .control) (registerAt a) (rowAt (c .rows) (windowRow (c .control) (registerAt a)))))
   unfolding carry moveAll
-  read-accepted e = ap doneOf (read-plan e) ∙ ap (λ (x : Answer). answered c x) (sym (register-value (registerAt a) (data-place a (low-address e))))
+  read-accepted e = step-told c (read a) ∙ ap toldOf (read-plan e) ∙ ap (λ (x : Answer). answered c x) (sym (register-value (registerAt a) (data-place a (low-address e))))
 
   read-refused : eqb (readRefusal (c .control) a) 0 ≡ false → doneOf (stepOf c (read a)) ≡ answered c (Refused (readRefusal (c .control) a))
   unfolding decide refusal
   read-refused t = by-plan c (read a) _ (pick-false (eqb (readRefusal (c .control) a) 0) _ _ t) ∙ plain-done c (read a) (c .control) _
 
   -- row being that of the window's holder
-  pub read-answers : (row : Contents) → row ≡ rowAt (c .rows) (windowRow (c .control) (registerAt a)) → answered c (readAnswer (c .control) a row) ≡ doneOf (stepOf c (read a))
+  pub read-answers : (row : Contents) → row ≡ rowAt (c .rows) (windowRow (c .control) (registerAt a)) → staying c (readAnswer (c .control) a row) ≡ doneOf (stepOf c (read a))
   unfolding readAnswer
   read-answers row e =
-      ap (λ (b : Contents). answered c (readAnswer (c .control) a b)) e
+      ap (λ (b : Contents). staying c (readAnswer (c .control) a b)) e
       ∙ by-test (eqb (readRefusal (c .control) a) 0)
-      (λ t. ap (answered c) (pick-true (eqb (readRefusal (c .control) a) 0) _ _ t) ∙ sym (read-accepted (eqb-true (readRefusal (c .control) a) 0 t)))
-      (λ t. ap (answered c) (pick-false (eqb (readRefusal (c .control) a) 0) _ _ t) ∙ sym (read-refused t))
+      (λ t. ap (λ (x : Answer). staying c (unlooked x)) (pick-true (eqb (readRefusal (c .control) a) 0) _ _ t) ∙ unlooked-told c (Value _) refl
+      ∙ sym (read-accepted (eqb-true (readRefusal (c .control) a) 0 t)))
+      (λ t. ap (λ (x : Answer). staying c (unlooked x)) (pick-false (eqb (readRefusal (c .control) a) 0) _ _ t) ∙ unlooked-told c (Refused _) refl ∙ sym (read-refused t))
 
 -- ---- register writes
 
@@ -142,7 +143,7 @@ module _ (c : Controller) (a v : ℕ) where
 
   write-plan : writeRefusal (c .control) a v ≡ 0 →
       decide (c .control) (heads (c .rows)) (write a v)
-      ≡ record { control = written (c .control) (registerAt a) v; moves = writeMoves (c .control) (registerAt a) v; reply = say Ok }
+      ≡ record { control = written (c .control) (registerAt a) v; moves = writeMoves (c .control) (registerAt a) v; reply = say Ok; looked = 0 }
   unfolding decide refusal act pick
   write-plan e = simp e
 
@@ -158,21 +159,21 @@ module _ (c : Controller) (a v : ℕ) where
 
 module _ (c : Controller) (sixteen : length (c .rows) ≡ 16) (a v : ℕ) where
   window-changes : (d : Control) (n p : ℕ) (row : Contents) → row ≡ rowAt (c .rows) (n % 16) →
-      changed c (windowChange d n p v row) ≡ answered (record { control = d; rows = moveAll (write a v) (windowMoves n p v) (c .rows) }) Ok
+      changed c (windowChange d n p v row) ≡ staying (record { control = d; rows = moveAll (write a v) (windowMoves n p v) (c .rows) }) (unlooked Ok)
   window-changes d n p row e =
-      puts-row c d Ok (λ (b : Contents). writePlace b p v) n row sixteen e
-      ∙ ap (λ (rows : List Contents). answered (record { control = d; rows = rows }) Ok) (window-moves c a v n p)
+      puts-row c d (unlooked Ok) (λ (b : Contents). writePlace b p v) n row sixteen e
+      ∙ ap (λ (rows : List Contents). staying (record { control = d; rows = rows }) (unlooked Ok)) (window-moves c a v n p)
 
   region-changes : (d : Control) (g : Region) (row : Contents) → row ≡ rowAt (c .rows) (holderIn (c .control) g % 16) →
-      changed c (changeIn (c .control) d row g v) ≡ answered (record { control = d; rows = moveAll (write a v) (movesIn (c .control) g v) (c .rows) }) Ok
+      changed c (changeIn (c .control) d row g v) ≡ staying (record { control = d; rows = moveAll (write a v) (movesIn (c .control) g v) (c .rows) }) (unlooked Ok)
   unfolding moveAll
   region-changes d (sendPlace p) row e = window-changes d (c .control .transmit .holder) p row e
   region-changes d (receivePlace p) row e = window-changes d (c .control .receive .holder) p row e
-  region-changes d (fifoPlace p) row e = says-only c d Ok
-  region-changes d elsewhere row e = says-only c d Ok
+  region-changes d (fifoPlace p) row e = says-only c d (unlooked Ok)
+  region-changes d elsewhere row e = says-only c d (unlooked Ok)
 
   register-changes : (d : Control) (r : Register) (row : Contents) → row ≡ rowAt (c .rows) (windowRow (c .control) r) →
-      changed c (registerChange (c .control) d r v row) ≡ answered (record { control = d; rows = moveAll (write a v) (writeMoves (c .control) r v) (c .rows) }) Ok
+      changed c (registerChange (c .control) d r v row) ≡ staying (record { control = d; rows = moveAll (write a v) (writeMoves (c .control) r v) (c .rows) }) (unlooked Ok)
   unfolding registerChange holderOf writeMoves
   register-changes d r row e = region-changes d (regionOf r) row e
 
@@ -181,5 +182,5 @@ module _ (c : Controller) (sixteen : length (c .rows) ≡ 16) (a v : ℕ) where
   unfolding writeChange
   write-changes row e =
       by-test (eqb (writeRefusal (c .control) a v) 0)
-      (λ t. ap (changed c) (pick-true (eqb (writeRefusal (c .control) a v) 0) _ _ t) ∙ register-changes _ (registerAt a) row e ∙ sym (write-accepted c a v (eqb-true (writeRefusal (c .control) a v) 0 t)))
-      (λ t. ap (changed c) (pick-false (eqb (writeRefusal (c .control) a v) 0) _ _ t) ∙ says-only c (c .control) _ ∙ sym (write-refused c a v t))
+      (λ t. ap (changed c) (pick-true (eqb (writeRefusal (c .control) a v) 0) _ _ t) ∙ register-changes _ (registerAt a) row e ∙ unlooked-told _ Ok refl ∙ sym (write-accepted c a v (eqb-true (writeRefusal (c .control) a v) 0 t)))
+      (λ t. ap (changed c) (pick-false (eqb (writeRefusal (c .control) a v) 0) _ _ t) ∙ says-only c (c .control) _ ∙ unlooked-told c (Refused _) refl ∙ sym (write-refused c a v t))

@@ -55,8 +55,8 @@ no-put n a e = simp e
 pub put-plan : (rows : List Contents) (good : Bool) (f : List ℕ) (n : ℕ) (p : Plan) → FramePlan p →
     isPutIn n (carry (frame good f) rows p .answer) ≡ true → carry (frame good f) rows p .next .rows ≡ set rows n (imageOf f)
 unfolding carry moveAll
-put-plan rows good f n p (drops d a q) x = absurd (false≢true (sym (no-put n a q) ∙ x))
-put-plan rows good f n p (puts d m a q) x = ap (λ (i : ℕ). set rows i (imageOf f)) (same-put m n a q x)
+put-plan rows good f n p (drops d a k q) x = absurd (false≢true (sym (no-put n a q) ∙ x))
+put-plan rows good f n p (puts d m a k q) x = ap (λ (i : ℕ). set rows i (imageOf f)) (same-put m n a q x)
 
 -- a frame of another size is refused
 pub size-refused : (c : Controller) (good : Bool) (f : List ℕ) → eqb (length f) (2 + cut (getD f 1 0)) ≡ false → stepOf c (frame good f) .answer ≡ Refused 11
@@ -67,8 +67,8 @@ size-refused c good f t = ap (λ (o : Outcome). o .answer) (step-plain c (frame 
 unput-plan : (rows : List Contents) (good : Bool) (f : List ℕ) (n : ℕ) (p : Plan) → FramePlan p →
     isPutIn n (carry (frame good f) rows p .answer) ≡ false → rowAt (carry (frame good f) rows p .next .rows) n ≡ rowAt rows n
 unfolding carry moveAll
-unput-plan rows good f n p (drops d a q) x = refl
-unput-plan rows good f n p (puts d m a q) x =
+unput-plan rows good f n p (drops d a k q) x = refl
+unput-plan rows good f n p (puts d m a k q) x =
     getD-set-other rows m n (imageOf f) noContents (λ e. false≢true (sym x ∙ ap (λ (i : ℕ). isPutIn i a) e ∙ q))
 
 -- the bytes behind a frame whose image is in buffer n, also past the last buffer
@@ -140,7 +140,7 @@ module _ (c : Controller) (a v n k : ℕ) where
 
 slot-rows : (e : Step) (rows : List Contents) (p : Plan) → SlotPlan p → carry e rows p .next .rows ≡ rows
 unfolding carry moveAll
-slot-rows e rows p (says d a) = refl
+slot-rows e rows p (says d a u) = refl
 slot-rows e rows p (sends d n) = refl
 
 module _ (c : Controller) (n k : ℕ) where

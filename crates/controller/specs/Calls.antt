@@ -3,7 +3,9 @@ use Prim.Native.Nat.{ℕ}
 use mathlib.Core.List.{List}
 use lib.ListN.{take}
 use Rattle.rules.specs.declared.Answer.{Answer}
+use Rattle.rules.specs.declared.Answer.the-variants.{Ok}
 use Rattle.controller.specs.declared.Controller.{Controller}
+use Rattle.controller.specs.declared.Answered.{Answered}
 use Rattle.controller.specs.declared.Done.{Done}
 use Rattle.rules.specs.Steps.{Step, reset, read, write, sync, syncDue, slot, frame, fault, timeout}
 use Rattle.controller.specs.declared.Call.{Call}
@@ -14,7 +16,19 @@ use Rattle.rules.specs.Answers.{wordOf, givenOf, numberIn, Detail, detailOf}
 
 -- what a method returns
 abbrev pub doneOf : Outcome → Done
-doneOf o = record { next = o .next; answer = o .answer }
+doneOf o = record { next = o .next; answer = o .answer; looked = o .looked }
+
+-- what is answered, out of that
+abbrev pub answerIn : Done → Answered
+answerIn d = record { answer = d .answer; looked = d .looked }
+
+-- "ok"
+abbrev pub accepted : Answered
+accepted = record { answer = Ok; looked = 0 }
+
+-- what the step on a lent record returns
+abbrev pub answeredOf : Outcome → Answered
+answeredOf o = answerIn (doneOf o)
 
 -- ---- a call as a value, with the frame's bytes and the room beside it
 
@@ -47,5 +61,5 @@ roomFor c Timeout room = room
 abbrev pub shownDetail : Answer → List ℕ → Detail
 shownDetail a room = detailOf a (take (numberIn (givenOf a)) room)
 
-abbrev pub shown : Answer → List ℕ → ℕ → Report
-shown a room lines = record { word = wordOf a; detail = shownDetail a room; room = room; lines = lines }
+abbrev pub shown : Answer → List ℕ → ℕ → ℕ → Report
+shown a room lines looked = record { word = wordOf a; detail = shownDetail a room; room = room; lines = lines; looked = looked }

@@ -44,13 +44,15 @@ sentOf rows (say a) = []
 sentOf rows (show n j) = []
 sentOf rows (send n) = frameOf (rowAt rows n)
 
--- What a step gives: the next record, the answer, the frame sent, and the room's content. A sent frame "fills the first
+-- What a step gives: the next record, the answer, the frame sent, the room's content, and how many dedicated receive buffers were
+-- examined (W8). A sent frame "fills the first
 -- bytes of the room and the rest stays, as the whole room does on any other answer".
 pub record Outcome : Type 0 where
   pub next : Controller
   pub answer : Answer
   pub sent : List ℕ
   pub room : List ℕ
+  pub looked : ℕ
 
 unfoldable pub carry : Step → List Contents → Plan → Outcome
 carry e rows p =
@@ -59,4 +61,5 @@ carry e rows p =
       answer = answerOf e rows (p .reply);
       sent = sentOf rows (p .reply);
       room = fillRoom (sentOf rows (p .reply)) (roomIn e);
+      looked = p .looked;
     }

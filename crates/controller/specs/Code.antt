@@ -24,34 +24,57 @@ use Rattle.rules.specs.Steps.{Step, slot}
 use Rattle.rules.specs.Rules.{decide}
 use Rattle.bus_steps.specs.Code.{rulingOf}
 use Rattle.controller.specs.declared.Controller.{Controller}
+use Rattle.rules.specs.LookedLaws.{lookedBy}
+use Rattle.controller.specs.declared.Answered.{Answered}
 use Rattle.controller.specs.declared.Done.{Done}
 use Rattle.controller.specs.declared.Change.{Change}
-use Rattle.controller.specs.Carry.{heads, rowAt}
+use Rattle.controller.specs.Carry.{heads, rowAt, Outcome}
 
--- the record unchanged, with an answer
+-- the record c after a step, with an answer, which tells the count
 abbrev pub answered : Controller → Answer → Done
-answered c a = record { next = c; answer = a }
+answered c a = record { next = c; answer = a; looked = lookedBy (c .control) a }
+
+-- an answer with its count, from the control state after it
+abbrev pub countedBy : Control → Answer → Answered
+countedBy d a = record { answer = a; looked = lookedBy d a }
+
+-- an answer of no lookup
+abbrev pub unlooked : Answer → Answered
+unlooked a = record { answer = a; looked = 0 }
+
+-- the record c unchanged, with such an answer
+abbrev pub staying : Controller → Answered → Done
+staying c x = record { next = c; answer = x .answer; looked = x .looked }
+
+-- an outcome by its record and its answer
+abbrev pub toldOf : Outcome → Done
+toldOf o = answered (o .next) (o .answer)
 
 -- ---- a change
 
--- the control state d alone, with the answer a: no buffer, and zeros for its bytes
-abbrev pub saying : Control → Answer → Change
-saying d a = record { control = d; buffer = 16; bytes = replicate 14 0; answer = a }
+-- the control state d alone, with the answer x: no buffer, and zeros for its bytes
+abbrev pub saying : Control → Answered → Change
+saying d x = record { control = d; buffer = 16; bytes = replicate 14 0; answered = x }
 
--- the control state d and the bytes b of buffer n, with the answer a
-abbrev pub placing : Control → ℕ → List ℕ → Answer → Change
-placing d n b a = record { control = d; buffer = n; bytes = b; answer = a }
+-- the control state d and the bytes b of buffer n, with the answer x
+abbrev pub placing : Control → ℕ → List ℕ → Answered → Change
+placing d n b x = record { control = d; buffer = n; bytes = b; answered = x }
 
 -- the same for any n: from 16 on there is no buffer
-abbrev pub putting : Control → ℕ → List ℕ → Answer → Change
-putting d n b a = pick (ltb n 16) (placing d n b a) (saying d a)
+abbrev pub putting : Control → ℕ → List ℕ → Answered → Change
+putting d n b x = pick (ltb n 16) (placing d n b x) (saying d x)
 
 -- the buffers' bytes after it: one buffer's below 16, else as they were
 unfoldable pub placed : List Contents → ℕ → List ℕ → List Contents
 placed rows n bytes = pick (ltb n 16) (set rows n (record { bytes = bytes })) rows
 
 abbrev pub changed : Controller → Change → Done
-changed c x = record { next = record { control = x .control; rows = placed (c .rows) (x .buffer) (x .bytes) }; answer = x .answer }
+changed c x =
+    record {
+      next = record { control = x .control; rows = placed (c .rows) (x .buffer) (x .bytes) };
+      answer = x .answered .answer;
+      looked = x .answered .looked;
+    }
 
 -- ---- rulings of the bus, and the changes of the events that only answer
 
@@ -75,7 +98,7 @@ saidBy (Send n) = Ok
 
 -- a ruling that only answers, from the control state c
 abbrev pub saidChange : Control → Ruling → Change
-saidChange c r = saying (keptFrom c (r .next)) (saidBy (r .verdict))
+saidChange c r = saying (keptFrom c (r .next)) (unlooked (saidBy (r .verdict)))
 
 -- an event that only answers: a sync, a sync due, a fault, a timeout
 abbrev pub eventChange : Controller → Step → Change
@@ -83,13 +106,13 @@ eventChange c e = saidChange (c .control) (rulingFor c e)
 
 -- ---- a frame's ruling as a change, the frame being f: it asks for no buffer's row, and it never sends
 
-abbrev pub frameChangeBy : Control → List ℕ → Verdict → Change
-frameChangeBy d f (Say a) = saying d a
-frameChangeBy d f (Store n a) = placing d n (imageOf f .bytes) a
-frameChangeBy d f (Send n) = saying d Ok
+abbrev pub frameChangeBy : Control → List ℕ → Answered → Verdict → Change
+frameChangeBy d f x (Say a) = saying d x
+frameChangeBy d f x (Store n a) = placing d n (imageOf f .bytes) x
+frameChangeBy d f x (Send n) = saying d x
 
 unfoldable pub frameChange : Ruling → List ℕ → Change
-frameChange r f = frameChangeBy (r .next) f (r .verdict)
+frameChange r f = frameChangeBy (r .next) f (countedBy (r .next) (saidBy (r .verdict))) (r .verdict)
 
 -- ---- a slot's ruling as a change, from the row of its buffer: it never stores
 
@@ -112,7 +135,7 @@ slotAnswer row (Store n a) = a
 slotAnswer row (Send n) = Sent (length (frameOf (record { bytes = bytesAt n row })))
 
 unfoldable pub slotChange : Ruling → Contents → Change
-slotChange r row = saying (r .next) (slotAnswer row (r .verdict))
+slotChange r row = saying (r .next) (unlooked (slotAnswer row (r .verdict)))
 
 -- the room afterwards
 abbrev pub roomBy : List Contents → List ℕ → Verdict → List ℕ
@@ -157,10 +180,10 @@ unfoldable pub registerValue : Control → Register → Contents → ℕ
 registerValue c r row = valueIn c row (regionOf r) (valueOf c r)
 
 -- the answer to the read of address a
-unfoldable pub readAnswer : Control → ℕ → Contents → Answer
+unfoldable pub readAnswer : Control → ℕ → Contents → Answered
 readAnswer c a row =
     let k = readRefusal c a in
-    pick (eqb k 0) (Value (registerValue c (registerAt a) row)) (Refused k)
+    unlooked (pick (eqb k 0) (Value (registerValue c (registerAt a) row)) (Refused k))
 
 -- place p of a buffer's window written
 unfoldable pub writePlace : Contents → ℕ → ℕ → Contents
@@ -168,13 +191,13 @@ writePlace b p v = pick (eqb p 0) (withIdent b v) (pick (eqb p 1) (withLength b 
 
 -- the window of buffer n, 16 or more for none, with place p written; d is the control state after it
 abbrev pub windowChange : Control → ℕ → ℕ → ℕ → Contents → Change
-windowChange d n p v row = putting d n (writePlace row p v .bytes) Ok
+windowChange d n p v row = putting d n (writePlace row p v .bytes) (unlooked Ok)
 
 abbrev pub changeIn : Control → Control → Contents → Region → ℕ → Change
 changeIn c d row (sendPlace p) v = windowChange d (c .transmit .holder) p v row
 changeIn c d row (receivePlace p) v = windowChange d (c .receive .holder) p v row
-changeIn c d row (fifoPlace p) v = saying d Ok
-changeIn c d row elsewhere v = saying d Ok
+changeIn c d row (fifoPlace p) v = saying d (unlooked Ok)
+changeIn c d row elsewhere v = saying d (unlooked Ok)
 
 -- the write of a register that gives the control state d, from c, which says the holders
 unfoldable pub registerChange : Control → Control → Register → ℕ → Contents → Change
@@ -184,10 +207,10 @@ registerChange c d r v row = changeIn c d row (regionOf r) v
 unfoldable pub controlChange : Control → ℕ → ℕ → Change
 controlChange c n v =
     let k = writeRefusal c (0x50 + n) v in
-    pick (eqb k 0) (saying (written c (Bufctl n) v) Ok) (saying c (Refused k))
+    pick (eqb k 0) (saying (written c (Bufctl n) v) (unlooked Ok)) (saying c (unlooked (Refused k)))
 
 -- the write of address a
 unfoldable pub writeChange : Control → ℕ → ℕ → Contents → Change
 writeChange c a v row =
     let k = writeRefusal c a v in
-    pick (eqb k 0) (registerChange c (written c (registerAt a) v) (registerAt a) v row) (saying c (Refused k))
+    pick (eqb k 0) (registerChange c (written c (registerAt a) v) (registerAt a) v row) (saying c (unlooked (Refused k)))

@@ -23,22 +23,25 @@ use Rattle.rules.specs.declared.Control.{Control}
 use Rattle.rules.specs.declared.Ruling.{Ruling}
 use Rattle.rules.specs.declared.Verdict.{Verdict}
 use Rattle.rules.specs.declared.Verdict.the-variants.{Say, Store, Send}
-use Rattle.rules.specs.Steps.{Step, reset, sync, syncDue, slot, frame, fault, timeout}
-use Rattle.rules.specs.Plan.{Plan, plain}
+use Rattle.rules.specs.Steps.{Step, reset, sync, syncDue, slot, frame, fault, timeout, hide}
+use Rattle.rules.specs.Plan.{Reply, say, show, send, Plan, plain}
+use Rattle.rules.specs.Answers.{isLookedUp}
 use Rattle.rules.specs.Refusals.{refuses11, refuses12, refusal}
 use Rattle.rules.specs.Modes.{wake}
 use Rattle.rules.specs.Bus.{woken, dueKind, lookup, offers, judged, received, slotFor, slotted, synced, dueSync, timedOut, faulted}
 use Rattle.rules.specs.Rules.{onBus, wakes, sleepsOn, act, decide}
 use Rattle.rules.specs.Hidden.{decide-hide}
+use Rattle.rules.specs.LookedLaws.{lookedBy, lookedIn, decide-told}
 use Rattle.rules.specs.BusPlanLaws.{FramePlan, drops, puts, frame-plan, SlotPlan, says, sends, slot-plan}
 use Rattle.bus_steps.specs.Code.{rulingOf, isReady, syncedOf, dueOf}
 use Rattle.bus_steps.specs.CodeLaws.{synced-ready, due-ready}
 use Rattle.controller.specs.declared.Controller.{Controller}
+use Rattle.controller.specs.declared.Answered.{Answered}
 use Rattle.controller.specs.declared.Done.{Done}
-use Rattle.controller.specs.Carry.{heads, rowAt, moveAll, Outcome, carry, resetState}
+use Rattle.controller.specs.Carry.{heads, rowAt, moveAll, answerOf, Outcome, carry, resetState}
 use Rattle.controller.specs.Session.{stepOf}
-use Rattle.controller.specs.Calls.{doneOf}
-use Rattle.controller.specs.Code.{answered, saying, placing, putting, placed, changed, rulingFor, slotRuling, keptFrom, saidChange, eventChange, frameChange, rowIndex, roomBy}
+use Rattle.controller.specs.Calls.{doneOf, accepted}
+use Rattle.controller.specs.Code.{answered, countedBy, unlooked, staying, toldOf, saying, placing, putting, placed, changed, rulingFor, slotRuling, keptFrom, saidChange, eventChange, frameChange, rowIndex, roomBy}
 
 -- the rules are given the step itself
 pub step-plain : (c : Controller) (e : Step) → stepOf c e ≡ carry e (c .rows) (decide (c .control) (heads (c .rows)) e)
@@ -63,32 +66,37 @@ row-own rows n row h e = e ∙ ap (rowAt rows) small
     small : n % 16 ≡ n
     small = omega arith
 
-module _ (c : Controller) (d : Control) (a : Answer) where
+-- where nothing was looked up, the answer tells the count 0
+pub unlooked-told : (c : Controller) (a : Answer) → isLookedUp a ≡ false → staying c (unlooked a) ≡ answered c a
+unfolding lookedBy
+unlooked-told c a u = ap (λ (k : ℕ). record { next = c; answer = a; looked = k }) (sym (pick-false (isLookedUp a) _ _ u))
+
+module _ (c : Controller) (d : Control) (x : Answered) where
   -- the record with these bytes, and the answer
   abbrev given : List Contents → Done
-  given rows = record { next = record { control = d; rows = rows }; answer = a }
+  given rows = staying (record { control = d; rows = rows }) x
 
-  pub says-only : changed c (saying d a) ≡ given (c .rows)
+  pub says-only : changed c (saying d x) ≡ given (c .rows)
   says-only = ap given (placed-none (c .rows) 16 (replicate 14 0) (omega arith))
 
   -- buffer n becomes b
-  pub places-row : (n : ℕ) (b : Contents) → length (c .rows) ≡ 16 → changed c (placing d n (b .bytes) a) ≡ given (set (c .rows) n b)
+  pub places-row : (n : ℕ) (b : Contents) → length (c .rows) ≡ 16 → changed c (placing d n (b .bytes) x) ≡ given (set (c .rows) n b)
   places-row n b sixteen =
       by-test (ltb n 16) (λ t. ap given (placed-one (c .rows) n (b .bytes) (ltb-true n 16 t)))
       (λ t. let past = ltb-false n 16 t in ap given (placed-none (c .rows) n (b .bytes) past ∙ sym (set-out (c .rows) n b (omega arith))))
 
   -- buffer n becomes what w makes of it, which is had from the row to look at
   pub puts-row : (w : Contents → Contents) (n : ℕ) (row : Contents) → length (c .rows) ≡ 16 → row ≡ rowAt (c .rows) (n % 16) →
-      changed c (putting d n (w row .bytes) a) ≡ given (set (c .rows) n (w (rowAt (c .rows) n)))
+      changed c (putting d n (w row .bytes) x) ≡ given (set (c .rows) n (w (rowAt (c .rows) n)))
   puts-row w n row sixteen e = by-test (ltb n 16) inside outside
     where
-      inside : ltb n 16 ≡ true → changed c (putting d n (w row .bytes) a) ≡ given (set (c .rows) n (w (rowAt (c .rows) n)))
+      inside : ltb n 16 ≡ true → changed c (putting d n (w row .bytes) x) ≡ given (set (c .rows) n (w (rowAt (c .rows) n)))
       inside t =
           ap (changed c) (pick-true (ltb n 16) _ _ t)
           ∙ places-row n (w row) sixteen
           ∙ ap (λ (b : Contents). given (set (c .rows) n (w b))) (row-own (c .rows) n row (ltb-true n 16 t) e)
 
-      outside : ltb n 16 ≡ false → changed c (putting d n (w row .bytes) a) ≡ given (set (c .rows) n (w (rowAt (c .rows) n)))
+      outside : ltb n 16 ≡ false → changed c (putting d n (w row .bytes) x) ≡ given (set (c .rows) n (w (rowAt (c .rows) n)))
       outside t =
           let past = ltb-false n 16 t in
           ap (changed c) (pick-false (ltb n 16) _ _ t) ∙ says-only ∙ ap given (sym (set-out (c .rows) n _ (omega arith)))
@@ -101,18 +109,32 @@ row-within (Say a) = omega arith
 row-within (Store n a) = omega arith
 row-within (Send n) = omega arith
 
+answer-told : (d : Control) (e : Step) (rows : List Contents) (r : Reply) → lookedIn d r ≡ lookedBy d (answerOf e rows r)
+unfolding lookedBy pick
+answer-told d e rows (say a) = refl
+answer-told d e rows (show n j) = refl
+answer-told d e rows (send n) = refl
+
+-- the count that a step reports is told by the record after it and by its answer
+pub step-told : (c : Controller) (e : Step) → doneOf (stepOf c e) ≡ toldOf (stepOf c e)
+unfolding stepOf carry
+step-told c e =
+    let p = decide (c .control) (heads (c .rows)) (hide e) in
+    ap (λ (k : ℕ). record { next = stepOf c e .next; answer = stepOf c e .answer; looked = k })
+    (decide-told (c .control) (heads (c .rows)) (hide e) .told ∙ answer-told (p .control) e (c .rows) (p .reply))
+
 -- what the step does, as its plan is carried out
-pub by-plan : (c : Controller) (e : Step) (p : Plan) → decide (c .control) (heads (c .rows)) e ≡ p → doneOf (stepOf c e) ≡ doneOf (carry e (c .rows) p)
-by-plan c e p d = ap doneOf (step-plain c e ∙ ap (carry e (c .rows)) d)
+pub by-plan : (c : Controller) (e : Step) (p : Plan) → decide (c .control) (heads (c .rows)) e ≡ p → doneOf (stepOf c e) ≡ toldOf (carry e (c .rows) p)
+by-plan c e p d = step-told c e ∙ ap toldOf (step-plain c e ∙ ap (carry e (c .rows)) d)
 
 -- a plan that changes the control state alone
-pub plain-done : (c : Controller) (e : Step) (d : Control) (a : Answer) → doneOf (carry e (c .rows) (plain d a)) ≡ answered (record { control = d; rows = c .rows }) a
+pub plain-done : (c : Controller) (e : Step) (d : Control) (a : Answer) → toldOf (carry e (c .rows) (plain d a)) ≡ answered (record { control = d; rows = c .rows }) a
 unfolding carry moveAll
 plain-done c e d a = refl
 
 -- a plan that only answers, from the control state c: no buffer's bytes are looked at, and the configuration and the locks stay
 pub data OnlySays (c : Control) : Plan → Type 0 where
-  only : (d : Control) (a : Answer) → keptFrom c d ≡ d → OnlySays c (plain d a)
+  only : (d : Control) (a : Answer) → isLookedUp a ≡ false → keptFrom c d ≡ d → OnlySays c (plain d a)
 
 same-kept : (c : Control) → keptFrom c c ≡ c
 unfolding keptFrom
@@ -140,23 +162,23 @@ timed-out-kept c = refl
 bus-says : (c : Control) (p q : Plan) → OnlySays c p → OnlySays c q → OnlySays c (onBus c p q)
 unfolding onBus
 bus-says c p q x y =
-    pick-keeps (OnlySays c) (c .mode .init) (λ t. only c Ignored (same-kept c)) (λ t. pick-keeps (OnlySays c) (c .mode .slpak) (λ u. x) (λ u. y))
+    pick-keeps (OnlySays c) (c .mode .init) (λ t. only c Ignored refl (same-kept c)) (λ t. pick-keeps (OnlySays c) (c .mode .slpak) (λ u. x) (λ u. y))
 
-wakes-says : (c d : Control) (a : Answer) → keptFrom c d ≡ d → OnlySays c (wakes c (plain d a))
-wakes-says c d a k = bus-says c _ _ (only (woken c) Woke (woken-kept c)) (only d a k)
+wakes-says : (c d : Control) → keptFrom c d ≡ d → OnlySays c (wakes c (plain d Ok))
+wakes-says c d k = bus-says c _ _ (only (woken c) Woke refl (woken-kept c)) (only d Ok refl k)
 
-sleeps-says : (c d : Control) (a : Answer) → keptFrom c d ≡ d → OnlySays c (sleepsOn c (plain d a))
-sleeps-says c d a k = bus-says c _ _ (only c Ignored (same-kept c)) (only d a k)
+sleeps-says : (c d : Control) → keptFrom c d ≡ d → OnlySays c (sleepsOn c (plain d Ok))
+sleeps-says c d k = bus-says c _ _ (only c Ignored refl (same-kept c)) (only d Ok refl k)
 
 due-says : (c : Control) (hs : List Head) → OnlySays c (sleepsOn c (dueSync c hs))
 unfolding dueSync
 due-says c hs =
-    bus-says c _ _ (only c Ignored (same-kept c))
-    (pick-keeps (OnlySays c) (c .mode .master) (λ t. only _ _ (synced-kept (dueKind c) c hs)) (λ t. only c Ignored (same-kept c)))
+    bus-says c _ _ (only c Ignored refl (same-kept c))
+    (pick-keeps (OnlySays c) (c .mode .master) (λ t. only _ _ refl (synced-kept (dueKind c) c hs)) (λ t. only c Ignored refl (same-kept c)))
 
-only-changes : (c : Controller) (e : Step) (p : Plan) → OnlySays (c .control) p → changed c (saidChange (c .control) (rulingOf p)) ≡ doneOf (carry e (c .rows) p)
-only-changes c e p (only d a k) =
-    says-only c _ a ∙ ap (λ (h : Control). answered (record { control = h; rows = c .rows }) a) k ∙ sym (plain-done c e d a)
+only-changes : (c : Controller) (e : Step) (p : Plan) → OnlySays (c .control) p → changed c (saidChange (c .control) (rulingOf p)) ≡ toldOf (carry e (c .rows) p)
+only-changes c e p (only d a u k) =
+    says-only c _ (unlooked a) ∙ ap (λ (h : Control). staying (record { control = h; rows = c .rows }) (unlooked a)) k ∙ unlooked-told _ a u ∙ sym (plain-done c e d a)
 
 event-changes : (c : Controller) (e : Step) → OnlySays (c .control) (decide (c .control) (heads (c .rows)) e) → changed c (eventChange c e) ≡ doneOf (stepOf c e)
 unfolding rulingFor
@@ -164,17 +186,17 @@ event-changes c e s = only-changes c e _ s ∙ sym (by-plan c e _ refl)
 
 -- a frame's plan stores the frame's image, whatever stood there
 frame-stores : (c : Controller) → length (c .rows) ≡ 16 → (good : Bool) (f : List ℕ) (p : Plan) → FramePlan p →
-    changed c (frameChange (rulingOf p) f) ≡ doneOf (carry (frame good f) (c .rows) p)
+    changed c (frameChange (rulingOf p) f) ≡ toldOf (carry (frame good f) (c .rows) p)
 unfolding carry moveAll frameChange
-frame-stores c sixteen good f p (drops d a q) = says-only c d a
-frame-stores c sixteen good f p (puts d n a q) = places-row c d a n (imageOf f) sixteen
+frame-stores c sixteen good f p (drops d a k q) = says-only c d (countedBy d a)
+frame-stores c sixteen good f p (puts d n a k q) = places-row c d (countedBy d a) n (imageOf f) sixteen
 
 -- ---- what the events change
 
 module _ (c : Controller) where
   pub sync-changes : (k : SyncKind) → changed c (eventChange c (sync k)) ≡ doneOf (stepOf c (sync k))
   unfolding decide refusal act pick
-  sync-changes k = event-changes c (sync k) (wakes-says (c .control) _ Ok (synced-kept k (c .control) (heads (c .rows))))
+  sync-changes k = event-changes c (sync k) (wakes-says (c .control) _ (synced-kept k (c .control) (heads (c .rows))))
 
   pub sync-due-changes : changed c (eventChange c syncDue) ≡ doneOf (stepOf c syncDue)
   unfolding decide refusal act pick
@@ -182,13 +204,13 @@ module _ (c : Controller) where
 
   pub fault-changes : (k : Fault) → changed c (eventChange c (fault k)) ≡ doneOf (stepOf c (fault k))
   unfolding decide refusal act pick
-  fault-changes k = event-changes c (fault k) (wakes-says (c .control) _ Ok (faulted-kept k (c .control)))
+  fault-changes k = event-changes c (fault k) (wakes-says (c .control) _ (faulted-kept k (c .control)))
 
   pub timeout-changes : changed c (eventChange c timeout) ≡ doneOf (stepOf c timeout)
   unfolding decide refusal act pick
-  timeout-changes = event-changes c timeout (sleeps-says (c .control) _ Ok (timed-out-kept (c .control)))
+  timeout-changes = event-changes c timeout (sleeps-says (c .control) _ (timed-out-kept (c .control)))
 
-  pub reset-step : doneOf (stepOf c reset) ≡ answered resetState Ok
+  pub reset-step : doneOf (stepOf c reset) ≡ staying resetState accepted
   unfolding stepOf decide refusal act pick carry moveAll resetState
   reset-step = refl
 
@@ -210,7 +232,7 @@ module _ (c : Controller) where
 
   slot-fills : (i : ℕ) (room : List ℕ) (p : Plan) → SlotPlan p → carry (slot i room) (c .rows) p .room ≡ roomBy (c .rows) room (rulingOf p .verdict)
   unfolding carry
-  slot-fills i room p (says d a) = fill-none room
+  slot-fills i room p (says d a u) = fill-none room
   slot-fills i room p (sends d n) = refl
 
   pub slot-room : (i : ℕ) (room : List ℕ) → roomBy (c .rows) room (slotRuling c i (length room) .verdict) ≡ stepOf c (slot i room) .room

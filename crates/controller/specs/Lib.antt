@@ -10,12 +10,14 @@ pub mod Runs
 pub mod Unchanged
 pub mod Untouched
 pub mod NoOldBytes
+pub mod Looked
 -- nothing to believe: laws, and the code's own definitions
 pub mod ViewLaws
 pub mod RunLaws
 pub mod UnchangedLaws
 pub mod UntouchedLaws
 pub mod KeptLinesLaws
+pub mod LookedLaws
 pub mod RowLaws
 pub mod Code
 pub mod CodeLaws

@@ -1,6 +1,6 @@
 -- Sessions step by step: their length, a session with its payload put to 0, and that a caller is shown what document 01 reports.
 use mathlib.Core.Path.{_≡_, refl, ap}
-use Prim.Native.Nat.{suc}
+use Prim.Native.Nat.{ℕ, suc}
 use mathlib.Core.List.{List, [], _∷_, map}
 use lib.ListN.{length}
 use mathlib.Core.Bool.{false}
@@ -32,21 +32,21 @@ run-by-length c (e ∷ es) = ap suc (run-by-length _ es)
 
 -- ---- what is shown is what document 01 reports
 
-detail-carried : (e : Step) (rows : List Contents) (c : Control) (ms : List Move) (r : Reply) → saysSent r ≡ false →
-    shownDetail (carry e rows (record { control = c; moves = ms; reply = r }) .answer) (carry e rows (record { control = c; moves = ms; reply = r }) .room)
-    ≡ detailOf (carry e rows (record { control = c; moves = ms; reply = r }) .answer) (carry e rows (record { control = c; moves = ms; reply = r }) .sent)
+detail-carried : (e : Step) (rows : List Contents) (c : Control) (ms : List Move) (r : Reply) (k : ℕ) → saysSent r ≡ false →
+    shownDetail (carry e rows (record { control = c; moves = ms; reply = r; looked = k }) .answer) (carry e rows (record { control = c; moves = ms; reply = r; looked = k }) .room)
+    ≡ detailOf (carry e rows (record { control = c; moves = ms; reply = r; looked = k }) .answer) (carry e rows (record { control = c; moves = ms; reply = r; looked = k }) .sent)
 unfolding carry fillRoom
-detail-carried e rows c ms (say a) s = detail-same a _ _ s
-detail-carried e rows c ms (show n j) s = refl
-detail-carried e rows c ms (send n) s = ap (bytes (length (frameOf (rowAt rows n)))) (take-append-seam (frameOf (rowAt rows n)) _)
+detail-carried e rows c ms (say a) k s = detail-same a _ _ s
+detail-carried e rows c ms (show n j) k s = refl
+detail-carried e rows c ms (send n) k s = ap (bytes (length (frameOf (rowAt rows n)))) (take-append-seam (frameOf (rowAt rows n)) _)
 
-pub report-shown : (c : Controller) (e : Step) → shown (stepOf c e .answer) (stepOf c e .room) (linesOf (stepOf c e .next .control)) ≡ reportOf linesOf (stepOf c e)
+pub report-shown : (c : Controller) (e : Step) → shown (stepOf c e .answer) (stepOf c e .room) (linesOf (stepOf c e .next .control)) (stepOf c e .looked) ≡ reportOf linesOf (stepOf c e)
 unfolding stepOf
 report-shown c e =
     let p = decide (c .control) (heads (c .rows)) (hide e) in
     let o = stepBy decide c e in
-    ap (λ (d : Detail). record { word = wordOf (o .answer); detail = d; room = o .room; lines = linesOf (o .next .control) })
-    (detail-carried e (c .rows) (p .control) (p .moves) (p .reply) (never-says-sent (c .control) (heads (c .rows)) (hide e)))
+    ap (λ (d : Detail). record { word = wordOf (o .answer); detail = d; room = o .room; lines = linesOf (o .next .control); looked = o .looked })
+    (detail-carried e (c .rows) (p .control) (p .moves) (p .reply) (p .looked) (never-says-sent (c .control) (heads (c .rows)) (hide e)))
 
 pub run-cons : (c : Controller) (e : Step) (es : List Step) → runOf c (e ∷ es) ≡ reportOf linesOf (stepOf c e) ∷ runOf (stepOf c e .next) es
 unfolding runOf runBy stepOf

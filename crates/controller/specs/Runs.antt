@@ -1,5 +1,5 @@
 -- Demand 3 of what runs. A caller makes any list of calls from reset, each on the record that the last one returned, and
--- looks at the answer, the room and the five lines. What the methods promise is all that is assumed of them.
+-- looks at the answer with its count, the room and the five lines. What the methods promise is all that is assumed of them.
 use mathlib.Core.Path.{_≡_, refl, sym, ap, ap₂, subst, _∙_}
 use Prim.Native.Nat.{ℕ}
 use mathlib.Core.List.{List, [], _∷_}
@@ -19,7 +19,7 @@ pub data Runs : Controller → List Step → List Report → Type 0 where
   ends : {c : Controller} → Runs c [] []
   calls : {c : Controller} {e : Step} {es : List Step} {rs : List Report} (d : Done) (room : List ℕ) (lines : ℕ) →
       d ≡ doneOf (stepOf c e) → room ≡ stepOf c e .room → lines ≡ linesOf (d .next .control) →
-      Runs (d .next) es rs → Runs c (e ∷ es) (shown (d .answer) room lines ∷ rs)
+      Runs (d .next) es rs → Runs c (e ∷ es) (shown (d .answer) room lines (d .looked) ∷ rs)
 
 -- "In each session they are, those values and bytes included, what this document's rules [..] give from reset for its list
 -- alone."
@@ -27,7 +27,8 @@ pub runs-reports : (c : Controller) (es : List Step) (rs : List Report) → Runs
 runs-reports c es rs ends = run-none c
 runs-reports c es rs (calls {c = b} {e = e} {es = later} {rs = more} d room lines p q l runs) =
     ap₂ (λ (x : Report) (xs : List Report). x ∷ xs)
-    (ap₂ (shown (d .answer)) q l ∙ ap (λ (x : Done). shown (x .answer) (stepOf b e .room) (linesOf (x .next .control))) p ∙ report-shown b e)
+    (ap₂ (λ (x : List ℕ) (y : ℕ). shown (d .answer) x y (d .looked)) q l
+    ∙ ap (λ (x : Done). shown (x .answer) (stepOf b e .room) (linesOf (x .next .control)) (x .looked)) p ∙ report-shown b e)
     (runs-reports (d .next) later more runs ∙ ap (λ (x : Done). runOf (x .next) later) p)
     ∙ sym (run-cons b e later)
 

@@ -16,12 +16,13 @@ use Rattle.controller.specs.Carry.{Outcome, carry, heads}
 use Rattle.rules.specs.Answers.{wordOf, Given, dash, value, buffer, counted, kind, number, Detail, given, bytes, detailOf}
 
 -- What a step reports: the replay text's answer and detail, beside a sent frame's bytes their count, the content of the lent
--- room, and the five lines after the step. A count that a later request reports is one more field here.
+-- room, the five lines after the step, and how many dedicated receive buffers were examined.
 pub record Report : Type 0 where
   pub word : ℕ
   pub detail : Detail
   pub room : List ℕ
   pub lines : ℕ
+  pub looked : ℕ
 
 abbrev pub reportOf : (Control → ℕ) → Outcome → Report
 reportOf lines o =
@@ -30,6 +31,7 @@ reportOf lines o =
       detail = detailOf (o .answer) (o .sent);
       room = o .room;
       lines = lines (o .next .control);
+      looked = o .looked;
     }
 
 -- One step under some rules. They are given the step with its payload put to 0 and the heads of the buffers.
@@ -87,7 +89,13 @@ seenRoom (bytes k f) room = seenPart f room
 
 abbrev pub seen : Step → Report → Report
 seen e r =
-    record { word = r .word; detail = seenDetail (readsData e) (r .detail); room = seenRoom (r .detail) (r .room); lines = r .lines }
+    record {
+      word = r .word;
+      detail = seenDetail (readsData e) (r .detail);
+      room = seenRoom (r .detail) (r .room);
+      lines = r .lines;
+      looked = r .looked;
+    }
 
 abbrev pub seenAll : List Step → List Report → List Report
 seenAll [] rs = []

@@ -26,7 +26,7 @@ unfolding stepOf carry
 refused-or-ignored c e t =
     let p = decide (c .control) (heads (c .rows)) (hide e) in
     let s = decide-still (c .control) (heads (c .rows)) (hide e) in
-    let r = still-carried c e (p .control) (p .moves) (p .reply) (s .same-control) (s .no-moves) t in
+    let r = still-carried c e (p .control) (p .moves) (p .reply) (p .looked) (s .same-control) (s .no-moves) t in
     record { same-record = r .0; same-room = r .1 }
 
 -- a read changes nothing, refused or not

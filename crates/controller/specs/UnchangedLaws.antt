@@ -1,5 +1,6 @@
 -- A reply that is "refused" or "ignored", carried out.
 use mathlib.Core.Path.{_≡_, refl}
+use Prim.Native.Nat.{ℕ}
 use mathlib.Core.Bool.{true, false, false≢true}
 use mathlib.Core.List.{List, []}
 use Rattle.contents.specs.Bytes.{fillRoom}
@@ -14,12 +15,12 @@ use Rattle.controller.specs.Carry.{moveAll, answerOf, carry}
 impossible : {G : Type 0} → false ≡ true → G
 impossible e = absurd (false≢true e)
 
-pub still-carried : (c : Controller) (e : Step) (d : Control) (ms : List Move) (r : Reply) →
+pub still-carried : (c : Controller) (e : Step) (d : Control) (ms : List Move) (r : Reply) (k : ℕ) →
     (stillReply r ≡ true → d ≡ c .control) → (stillReply r ≡ true → ms ≡ []) →
     changesNothing (answerOf e (c .rows) r) ≡ true →
-    (carry e (c .rows) (record { control = d; moves = ms; reply = r }) .next ≡ c)
-    × (carry e (c .rows) (record { control = d; moves = ms; reply = r }) .room ≡ roomIn e)
+    (carry e (c .rows) (record { control = d; moves = ms; reply = r; looked = k }) .next ≡ c)
+    × (carry e (c .rows) (record { control = d; moves = ms; reply = r; looked = k }) .room ≡ roomIn e)
 unfolding carry moveAll fillRoom
-still-carried c e d ms (say a) p q t = (simp (p t, q t), refl)
-still-carried c e d ms (show n j) p q t = impossible t
-still-carried c e d ms (send n) p q t = impossible t
+still-carried c e d ms (say a) k p q t = (simp (p t, q t), refl)
+still-carried c e d ms (show n j) k p q t = impossible t
+still-carried c e d ms (send n) k p q t = impossible t

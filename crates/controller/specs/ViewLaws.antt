@@ -83,6 +83,7 @@ headReport lines hs e p =
       detail = seenDetail (readsData e) (detailOf (headAnswer hs (p .reply)) (headSent hs (p .reply)));
       room = seenRoom (detailOf (headAnswer hs (p .reply)) (headSent hs (p .reply))) (fillRoom (headSent hs (p .reply)) (roomIn e));
       lines = lines (p .control);
+      looked = p .looked;
     }
 
 seen-none : (d : Bool) → pick {A = ℕ} d 0 0 ≡ 0
@@ -98,13 +99,13 @@ room-framed false g room = sym (zeros-zeros room)
 room-free : (a : Answer) (room : List ℕ) → seenRoom (detailOf a []) room ≡ seenRoom (detailOf a []) (zeros room)
 room-free a room = room-framed (isSent a) (givenOf a) room
 
-report-by : (lines : Control → ℕ) (e : Step) (rows : List Contents) (c : Control) (ms : List Move) (r : Reply) →
-    seen e (reportOf lines (carry e rows (record { control = c; moves = ms; reply = r })))
-    ≡ headReport lines (heads rows) (hide e) (record { control = c; moves = ms; reply = r })
+report-by : (lines : Control → ℕ) (e : Step) (rows : List Contents) (c : Control) (ms : List Move) (r : Reply) (k : ℕ) →
+    seen e (reportOf lines (carry e rows (record { control = c; moves = ms; reply = r; looked = k })))
+    ≡ headReport lines (heads rows) (hide e) (record { control = c; moves = ms; reply = r; looked = k })
 unfolding carry headReport headAnswer headSent fillRoom
-report-by lines e rows c ms (say a) = simp (reads-hide, room-hide, room-free a (roomIn e))
-report-by lines e rows c ms (show n j) = simp (reads-hide, room-hide, seen-shown, seen-none, zeros-zeros)
-report-by lines e rows c ms (send n) = simp (room-hide, head-at, frame-head, head-hide, room-head) (simp (frame-size, head-size))
+report-by lines e rows c ms (say a) k = simp (reads-hide, room-hide, room-free a (roomIn e))
+report-by lines e rows c ms (show n j) k = simp (reads-hide, room-hide, seen-shown, seen-none, zeros-zeros)
+report-by lines e rows c ms (send n) k = simp (room-hide, head-at, frame-head, head-hide, room-head) (simp (frame-size, head-size))
 
 -- ---- the view, step by step
 
@@ -129,7 +130,7 @@ module _ (decide : Rules) (lines : Control → ℕ) where
   unfolding viewReport
   report-view c e =
       let p = decide (c .control) (heads (c .rows)) (hide e) in
-      report-by lines e (c .rows) (p .control) (p .moves) (p .reply)
+      report-by lines e (c .rows) (p .control) (p .moves) (p .reply) (p .looked)
 
   pub viewRun : View → List Step → List Report
   viewRun w [] = []

@@ -104,6 +104,7 @@ impl Controller {
         Done {
             next: Controller::after_reset(),
             answer: Answer::Ok,
+            looked: 0,
         }
     }
 
@@ -114,9 +115,13 @@ impl Controller {
         let c = self.control;
         let i = registers::window_row(c, a);
         let row = self.rows[i];
+        let said = registers::read_answer(c, a, row);
+        let answer = said.answer;
+        let looked = said.looked;
         Done {
             next: self,
-            answer: registers::read_answer(c, a, row),
+            answer,
+            looked,
         }
     }
 

@@ -9,11 +9,13 @@ ghost use Rattle.bus_steps.specs.Code.{isReady};
 ghost use Rattle.rules.specs.Steps.Step.{sync, syncDue, frame, fault, timeout};
 ghost use Rattle.controller.specs.declared.Controller.{Controller};
 ghost use Rattle.controller.specs.Carry.{heads, rowAt};
-ghost use Rattle.controller.specs.Code.{rulingFor, slotRuling, keptFrom, saidChange, eventChange, frameChange, rowIndex, bytesAt, slotAnswer, slotChange, roomSent};
+ghost use Rattle.controller.specs.Code.{rulingFor, slotRuling, keptFrom, saidBy, saidChange, eventChange, frameChange, rowIndex, bytesAt, slotAnswer, slotChange, roomSent};
 use crate::Change;
 use crate::Controller;
+use crate::changes::counted;
 use crate::changes::with_answer;
-use crate::changes::with_bytes;
+use crate::changes::with_count;
+use crate::changes::with_counted_bytes;
 use contents::Contents;
 use masks::NONE;
 use rules::Answer;
@@ -55,6 +57,17 @@ fn kept_from(c: Control, d: Control) -> Control
     next
 }
 
+// The answer of a verdict that sends nothing.
+fn answer_of(verdict: Verdict) -> Answer
+    ensures { λ a. ⌜ a ≡ saidBy verdict ⌝ }
+{
+    match verdict {
+        Verdict::Say(a) => a,
+        Verdict::Store(_, a) => a,
+        Verdict::Send(_) => Answer::Ok,
+    }
+}
+
 // A ruling that only answers, as a change of the control state c.
 fn said(c: Control, r: Ruling) -> Change
     ensures { λ x. ⌜ x ≡ saidChange c r ⌝ }
@@ -62,11 +75,7 @@ fn said(c: Control, r: Ruling) -> Change
     let d = r.next;
     let control = kept_from(c, d);
     let verdict = r.verdict;
-    match verdict {
-        Verdict::Say(a) => with_answer(control, a),
-        Verdict::Store(_, a) => with_answer(control, a),
-        Verdict::Send(_) => with_answer(control, Answer::Ok),
-    }
+    with_answer(control, answer_of(verdict))
 }
 
 // The room after a verdict on a slot: a sent frame fills its first bytes.
@@ -160,16 +169,17 @@ pub fn frame_ruling(c: Controller, good: bool, f: &[u8]) -> Ruling
     bus_steps::on_frame(d, good, i, lookup(c, i))
 }
 
-// What a frame's ruling changes. It never sends.
+// What a frame's ruling changes. It never sends. The count is worked out before the ways part: one place instead of two.
 pub fn frame_change(r: Ruling, f: &[u8]) -> Change
     ensures { λ x. ⌜ x ≡ frameChange r (now (f .entry)) ⌝ }
 {
     let control = r.next;
     let verdict = r.verdict;
+    let x = counted(control, answer_of(verdict));
     match verdict {
-        Verdict::Say(a) => with_answer(control, a),
-        Verdict::Store(n, a) => with_bytes(control, n, receiving::store_frame(f), a),
-        Verdict::Send(_) => with_answer(control, Answer::Ok),
+        Verdict::Say(_) => with_count(control, x),
+        Verdict::Store(n, _) => with_counted_bytes(control, n, receiving::store_frame(f), x),
+        Verdict::Send(_) => with_count(control, x),
     }
 }
 

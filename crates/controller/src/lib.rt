@@ -18,10 +18,17 @@ pub struct Controller {
     pub rows: [Contents; 16],
 }
 
-// The record after a call or an event, and its answer.
+// What a call or an event is answered, and how many dedicated receive buffers were examined: 0 where no frame was looked up.
+pub struct Answered {
+    pub answer: Answer,
+    pub looked: u8,
+}
+
+// The record after a call or an event, its answer, and how many dedicated receive buffers were examined.
 pub struct Done {
     pub next: Controller,
     pub answer: Answer,
+    pub looked: u8,
 }
 
 // What a step changes: the control state, and the bytes of one buffer, or of none where its number is 16 or more. It is small, so
@@ -30,7 +37,7 @@ pub struct Change {
     pub control: Control,
     pub buffer: u8,
     pub bytes: [u8; 14],
-    pub answer: Answer,
+    pub answered: Answered,
 }
 
 // A call or an event as a value; the frame's bytes and the room for a sent frame go beside it.

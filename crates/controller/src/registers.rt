@@ -3,6 +3,7 @@
 ghost use mathlib.Core.Path.{_≡_};
 ghost use Rattle.rules.specs.Registers.{registerAt};
 ghost use Rattle.controller.specs.Code.{holderOf, windowRow, windowByte, registerValue, readAnswer, writePlace, windowChange, registerChange, controlChange, writeChange};
+use crate::Answered;
 use crate::Change;
 use crate::changes::with_answer;
 use crate::changes::with_bytes;
@@ -103,15 +104,21 @@ pub fn window_row(c: Control, a: u8) -> usize
 }
 
 // The answer to a register read, in the control state c, with that row.
-pub fn read_answer(c: Control, a: u8, row: Contents) -> Answer
+pub fn read_answer(c: Control, a: u8, row: Contents) -> Answered
     ensures { λ r. ⌜ r ≡ readAnswer c a row ⌝ }
 {
     let k = refusals::read_refusal(c, a);
     if k != 0 {
-        return Answer::Refused(k);
+        return Answered {
+            answer: Answer::Refused(k),
+            looked: 0,
+        };
     }
     let v = register_value(c, reads::registers::register_at(a), row);
-    Answer::Value(v)
+    Answered {
+        answer: Answer::Value(v),
+        looked: 0,
+    }
 }
 
 // What a register write changes, in the control state c, with that row.

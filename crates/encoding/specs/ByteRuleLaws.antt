@@ -35,7 +35,7 @@ use Rattle.rules.specs.Bus.{woken, syncEvents, syncFlag, synced, dueKind, dueSy
 use Rattle.rules.specs.Refusals.{refuses11, refuses12, readRefusal, writeRefusal, refusal}
 use Rattle.rules.specs.Answers.{givenOf, numberIn, syncNumber}
 use Rattle.rules.specs.Steps.{Step, reset, read, write, sync, syncDue, slot, frame, fault, timeout, valueIn}
-use Rattle.rules.specs.Plan.{headAt, Move, wipe, setIdent, setLength, setData, store, Reply, say, show, send, Plan, plain}
+use Rattle.rules.specs.Plan.{headAt, Move, wipe, setIdent, setLength, setData, store, Reply, say, show, send, Plan, plain, withLooked}
 use Rattle.rules.specs.Rules.{onBus, act, decide}
 use Rattle.encoding.specs.Bytes.{Bytes}
 use Rattle.encoding.specs.ByteListLaws.{set-bytes, zero-bytes, no-bytes, cons-bytes, or-byte, and-byte, flag-byte, lowest-byte, highest-byte, first-byte}
@@ -319,12 +319,16 @@ fifo-bytes c i p =
     (λ f. record { state = put-at c 12 p (place-byte (c .config .fsiz) (c .fifo .next) (p 0)); put = stored-bytes; said = p 12 }))
     (λ e. plain-bytes _ _ p (omega arith))
 
+-- a count is in no register
+counted-bytes : (p : Plan) (k : ℕ) → PlanBytes p → PlanBytes (withLooked p k)
+counted-bytes p k b = record { state = b .state; put = b .put; said = b .said }
+
 frame-bytes : (c : Control) (hs : List Head) (good : Bool) (i : ℕ) → InBytes c → PlanBytes (received c hs good i)
 unfolding received judged found raiseLast
 frame-bytes c hs good i p =
     pick-keeps PlanBytes (not (c .mode .synced)) (λ e. plain-bytes _ _ p (omega arith))
     (λ e. pick-keeps PlanBytes (not good || eqb i 0) (λ f. plain-bytes _ _ (gisr-raised c _ p (omega arith)) (omega arith))
-    (λ f. pick-keeps PlanBytes (ltb (lookup c hs i) 16) (λ t. buffer-bytes _ _ p (small _ (ltb-true (lookup c hs i) 16 t))) (λ t. fifo-bytes _ i p)))
+    (λ f. counted-bytes _ _ (pick-keeps PlanBytes (ltb (lookup c hs i) 16) (λ t. buffer-bytes _ _ p (small _ (ltb-true (lookup c hs i) 16 t))) (λ t. fifo-bytes _ i p))))
 
 slot-bytes : (c : Control) (hs : List Head) (i : ℕ) → InBytes c → PlanBytes (slotted c hs i)
 unfolding slotted slotFor sendFrom

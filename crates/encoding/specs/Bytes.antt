@@ -2,10 +2,11 @@
 use Prim.Native.Nat.{ℕ, _<_}
 use mathlib.Core.List.{List, [], _∷_}
 use lib.ListN.{getD}
-use Rattle.rules.specs.declared.Answer.{Answer}
 use Rattle.rules.specs.Steps.{Step, frame, valueIn, frameIn}
 use Rattle.controller.specs.Carry.{resetState}
+use Rattle.controller.specs.declared.Answered.{Answered}
 use Rattle.controller.specs.Session.{stepOf, endOf}
+use Rattle.controller.specs.Calls.{answeredOf}
 
 -- every number of the list is a byte
 abbrev pub Bytes : List ℕ → Type 0
@@ -21,5 +22,5 @@ AllBytes [] = Unit {0}
 AllBytes (e ∷ es) = BringsBytes e × AllBytes es
 
 -- what the step e answers after the steps es from reset
-abbrev pub answerAfter : List Step → Step → Answer
-answerAfter es e = stepOf (endOf resetState es) e .answer
+abbrev pub answerAfter : List Step → Step → Answered
+answerAfter es e = answeredOf (stepOf (endOf resetState es) e)

@@ -2,6 +2,7 @@
 ghost use mathlib.Core.Path.{_≡_};
 ghost use Rattle.rules.specs.Answers.{wordOf, givenOf, numberIn, syncNumber};
 ghost use Rattle.encoding.specs.Answers.{numberOf};
+use controller::Answered;
 use rules::Answer;
 use rules::SyncKind;
 
@@ -64,9 +65,10 @@ pub fn wide(x: u8) -> u32
     x as u32
 }
 
-// An answer as a number.
-pub fn number(a: Answer) -> u32
+// An answer with its count as a number.
+pub fn number(a: Answered) -> u32
     ensures { λ r. ⌜ r ≡ numberOf a ⌝ }
 {
-    256 * wide(word(a)) + wide(detail(a))
+    let answer = a.answer;
+    65536 * wide(a.looked) + 256 * wide(word(answer)) + wide(detail(answer))
 }

@@ -7,13 +7,13 @@ use borrow.Author.Tests.{eq-eqb, ne-eqb}
 use lib.Dec.{T as Holds, eqb, eqb→eq}
 use mir.Facts.{eqb-no}
 use Rattle.masks.specs.PickLaws.{pick-true, pick-false, by-test}
-use Rattle.rules.specs.declared.Answer.{Answer}
 use Rattle.rules.specs.Flags.{linesOf}
 use Rattle.controller.specs.declared.Controller.{Controller}
 use Rattle.controller.specs.declared.Call.{Call}
+use Rattle.controller.specs.declared.Answered.{Answered}
 use Rattle.controller.specs.Carry.{resetState}
 use Rattle.controller.specs.Session.{stepOf}
-use Rattle.controller.specs.Calls.{doneOf, stepFor, roomFor}
+use Rattle.controller.specs.Calls.{answeredOf, stepFor, roomFor}
 use Rattle.encoding.specs.Answers.{numberOf, wrongSize}
 use Rattle.encoding.specs.Calls.{recordSize, Asked, Known}
 use Rattle.encoding.specs.Code.{knownOf, judgedOf, meantOf}
@@ -57,8 +57,8 @@ module _ (c : Controller) (size kind first second : ℕ) (frame room : List ℕ)
       pick-true _ _ _ (judged-size size kind first second z)
       ∙ ap (λ (a : Asked). effectOf c a frame room) (judged-call size kind first second z ∙ ap Known (sym m))
 
-  pub made : (call : Call) {next : Controller} {a : Answer} {zs : List ℕ} {m : ℕ} → Makes call →
-      (next ≡ doneOf (stepOf c (stepFor call frame room)) .next) × (a ≡ doneOf (stepOf c (stepFor call frame room)) .answer) × (zs ≡ roomFor c call room) →
+  pub made : (call : Call) {next : Controller} {a : Answered} {zs : List ℕ} {m : ℕ} → Makes call →
+      (next ≡ stepOf c (stepFor call frame room) .next) × (a ≡ answeredOf (stepOf c (stepFor call frame room))) × (zs ≡ roomFor c call room) →
       m ≡ numberOf a → effect ≡ record { next = next; answer = m; room = zs }
   unfolding effectOf
   made call e said n = e ∙ sym (leaves-same (said .0) (n ∙ ap numberOf (said .1)) (said .2))

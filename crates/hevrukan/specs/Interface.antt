@@ -3,12 +3,11 @@ use Prim.Native.Nat.{ℕ}
 use mathlib.Core.List.{List}
 use lib.Dec.{eqb}
 use Rattle.masks.specs.Pick.{pick}
-use Rattle.rules.specs.declared.Answer.the-variants.{Ok}
 use Rattle.rules.specs.Flags.{linesOf}
 use Rattle.controller.specs.declared.Controller.{Controller}
 use Rattle.controller.specs.Carry.{resetState}
 use Rattle.controller.specs.Session.{stepOf}
-use Rattle.controller.specs.Calls.{stepFor, roomFor}
+use Rattle.controller.specs.Calls.{accepted, answeredOf, stepFor, roomFor}
 use Rattle.encoding.specs.Answers.{numberOf, unknown, wrongSize}
 use Rattle.encoding.specs.Calls.{recordSize, Asked, Known, Unknown, callOf}
 
@@ -26,7 +25,7 @@ unfoldable pub effectOf : Controller → Asked → List ℕ → List ℕ → Eff
 effectOf c (Known call) frame room =
     record {
       next = stepOf c (stepFor call frame room) .next;
-      answer = numberOf (stepOf c (stepFor call frame room) .answer);
+      answer = numberOf (answeredOf (stepOf c (stepFor call frame room)));
       room = roomFor c call room;
     }
 effectOf c Unknown frame room = unchanged c room unknown
@@ -41,7 +40,7 @@ unfoldable pub resetNext : Controller → ℕ → Controller
 resetNext c size = pick (eqb size recordSize) resetState c
 
 unfoldable pub resetAnswer : ℕ → ℕ
-resetAnswer size = pick (eqb size recordSize) (numberOf Ok) wrongSize
+resetAnswer size = pick (eqb size recordSize) (numberOf accepted) wrongSize
 
 -- `hevrukan_lines`
 unfoldable pub linesAnswer : Controller → ℕ → ℕ

@@ -6,6 +6,7 @@ use lib.Dec.{eqb}
 use Rattle.masks.specs.PickLaws.{pick-true, pick-false, by-test}
 use Rattle.controller.specs.declared.Controller.{Controller}
 use Rattle.controller.specs.declared.Done.{Done}
+use Rattle.controller.specs.Calls.{answerIn}
 use Rattle.controller.specs.CodeLaws.{reset-step}
 use Rattle.encoding.specs.Answers.{numberOf}
 use Rattle.encoding.specs.Calls.{recordSize, callOf}
@@ -27,5 +28,5 @@ module _ (c : Controller) (size first second : ℕ) (frame room : List ℕ) wher
   unfolding resetAnswer stepEffect effectOf callOf
   reset-answer =
       by-test (eqb size recordSize)
-      (λ e. pick-true _ _ _ e ∙ sym (ap (λ (d : Done). numberOf (d .answer)) (reset-step c)) ∙ sym (ap (λ (x : Effect). x .answer) (pick-true _ _ _ e)))
+      (λ e. pick-true _ _ _ e ∙ sym (ap (λ (d : Done). numberOf (answerIn d)) (reset-step c)) ∙ sym (ap (λ (x : Effect). x .answer) (pick-true _ _ _ e)))
       (λ e. pick-false _ _ _ e ∙ sym (ap (λ (x : Effect). x .answer) (pick-false _ _ _ e)))

@@ -4,32 +4,33 @@
 ghost use mathlib.Core.Path.{_≡_};
 ghost use Rattle.rules.specs.Steps.Step.{frame as frameStep, write as writeStep};
 ghost use Rattle.controller.specs.Session.{stepOf};
-ghost use Rattle.controller.specs.Calls.{doneOf, stepFor, roomFor};
+ghost use Rattle.controller.specs.Calls.{answeredOf, stepFor, roomFor};
 ghost use Rattle.controller.specs.Code.{changed};
 use contents::Contents;
+use controller::Answered;
 use controller::Call;
 use controller::Change;
 use controller::Controller;
+use controller::changes;
 use controller::events;
 use controller::registers;
 use masks::NONE;
-use rules::Answer;
 
 // The change carried out: the one buffer whose bytes change, and the control state.
-fn carry(c: &mut Controller, x: Change) -> Answer
-    ensures { λ r. ⌜ (now (c .exit) ≡ changed (now (c .entry)) x .next) × (r ≡ x .answer) ⌝ }
+fn carry(c: &mut Controller, x: Change) -> Answered
+    ensures { λ r. ⌜ (now (c .exit) ≡ changed (now (c .entry)) x .next) × (r ≡ x .answered) ⌝ }
 {
     if x.buffer < NONE {
         let n = x.buffer as usize;
         c.rows[n] = Contents { bytes: x.bytes };
     }
     c.control = x.control;
-    x.answer
+    x.answered
 }
 
 // The step of a frame: none of its bytes is copied but to a buffer, whose length and data of before are not read.
-fn frame(c: &mut Controller, good: bool, f: &[u8]) -> Answer
-    ensures { λ r. ⌜ (now (c .exit) ≡ doneOf (stepOf (now (c .entry)) (frameStep good (now (f .entry)))) .next) × (r ≡ doneOf (stepOf (now (c .entry)) (frameStep good (now (f .entry)))) .answer) ⌝ }
+fn frame(c: &mut Controller, good: bool, f: &[u8]) -> Answered
+    ensures { λ r. ⌜ (now (c .exit) ≡ stepOf (now (c .entry)) (frameStep good (now (f .entry))) .next) × (r ≡ answeredOf (stepOf (now (c .entry)) (frameStep good (now (f .entry))))) ⌝ }
 {
     let r = events::frame_ruling(*c, good, f);
     let x = events::frame_change(r, f);
@@ -37,8 +38,8 @@ fn frame(c: &mut Controller, good: bool, f: &[u8]) -> Answer
 }
 
 // The step of a register write. The control registers, which test code writes most, have a path of their own that looks up no row.
-fn write(c: &mut Controller, a: u8, v: u8) -> Answer
-    ensures { λ r. ⌜ (now (c .exit) ≡ doneOf (stepOf (now (c .entry)) (writeStep a v)) .next) × (r ≡ doneOf (stepOf (now (c .entry)) (writeStep a v)) .answer) ⌝ }
+fn write(c: &mut Controller, a: u8, v: u8) -> Answered
+    ensures { λ r. ⌜ (now (c .exit) ≡ stepOf (now (c .entry)) (writeStep a v) .next) × (r ≡ answeredOf (stepOf (now (c .entry)) (writeStep a v))) ⌝ }
 {
     if a < 0x50 {
         let d = c.control;
@@ -53,14 +54,15 @@ fn write(c: &mut Controller, a: u8, v: u8) -> Answer
     }
 }
 
-// The step: the record after it, its answer, and the room. Only a slot looks at the room, and only a frame at the bytes f.
-pub fn step(c: &mut Controller, call: Call, f: &[u8], room: &mut [u8]) -> Answer
-    ensures { λ r. ⌜ (now (c .exit) ≡ doneOf (stepOf (now (c .entry)) (stepFor call (now (f .entry)) (now (room .entry)))) .next) × (r ≡ doneOf (stepOf (now (c .entry)) (stepFor call (now (f .entry)) (now (room .entry)))) .answer) × (now (room .exit) ≡ roomFor (now (c .entry)) call (now (room .entry))) ⌝ }
+// The step: the record after it, its answer with the count of examined buffers, and the room. Only a slot looks at the room, and only a
+// frame at the bytes f.
+pub fn step(c: &mut Controller, call: Call, f: &[u8], room: &mut [u8]) -> Answered
+    ensures { λ r. ⌜ (now (c .exit) ≡ stepOf (now (c .entry)) (stepFor call (now (f .entry)) (now (room .entry))) .next) × (r ≡ answeredOf (stepOf (now (c .entry)) (stepFor call (now (f .entry)) (now (room .entry))))) × (now (room .exit) ≡ roomFor (now (c .entry)) call (now (room .entry))) ⌝ }
 {
     match call {
         Call::Reset => {
             *c = Controller::after_reset();
-            Answer::Ok
+            changes::accepted()
         }
         Call::Read(a) => {
             let d = c.control;

@@ -4,6 +4,7 @@ pub mod Reads
 pub mod Slots
 -- final statements
 pub mod Reachable
+pub mod Examined
 -- nothing to believe: laws, and the code's own definitions
 pub mod AcceptedLaws
 pub mod TestLaws
@@ -29,3 +30,4 @@ pub mod KeptSoundLaws
 pub mod StepLaws
 pub mod ReachableLaws
 pub mod SlotLaws
+pub mod ExaminedLaws

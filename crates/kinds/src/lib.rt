@@ -2,6 +2,7 @@
 ghost use mathlib.Core.Path.{_≡_};
 ghost use Rattle.masks.specs.Bits.{maskOf};
 ghost use Rattle.rules.specs.Kinds.{isLocked, isFullTransmit, isTransmit, isReceive, isOldest, fifoHolder, lockif, isLawful, placeAfter};
+ghost use Rattle.rules.specs.Bus.{examined};
 ghost use Rattle.rules.specs.Writes.{cfgAfter};
 use masks::NONE;
 use rules::Control;
@@ -32,6 +33,15 @@ pub fn receivers(c: Control) -> u16
     let b = c.buffers;
     let g = c.config;
     !b.cfg & !masks::below(g.fsiz)
+}
+
+// How many dedicated receive buffers a lookup examines that finds buffer n: those up to n, that one included; all for NONE.
+pub fn examined(c: Control, n: u8) -> u8
+    ensures { λ r. ⌜ r ≡ examined c n ⌝ }
+{
+    let all = receivers(c);
+    let near = masks::up_to(n);
+    masks::count(all & near)
 }
 
 // Buffer n is a full transmit buffer.

@@ -3,8 +3,8 @@ use Prim.Native.Nat.{ℕ, zero, suc, _-_, _*_, _/_, _%_, _^_, _<_, _≤_}
 use mathlib.Core.Path.{_≡_, ap, sym, _∙_}
 use native.Mathlib.Omega.{arith}
 use native.Mathlib.Nat.{one-mul, mod-eq-of-lt, pow-suc}
-use borrow.Author.Tests.{ne-eqb, lt-ltb}
-use lib.Dec.{eqb, ltb, eqb·suc-zero, eqb·suc-suc, eqb·zero-suc, leb·suc-suc, leb·suc-zero, leb·zero}
+use borrow.Author.Tests.{ne-eqb, lt-ltb, le-leb}
+use lib.Dec.{eqb, ltb, leb, eqb·suc-zero, eqb·suc-suc, eqb·zero-suc, leb·suc-suc, leb·suc-zero, leb·zero}
 use lib.Bits.{bitAnd, and-mask}
 use lib.Pow.{pow-pos, pow-lt}
 use Rattle.masks.specs.Bits.{bitOf, maskOf}
@@ -54,3 +54,21 @@ below-inside n h =
 
 pub below-outside : (n : ℕ) → 16 ≤ n → 65535 ≡ maskOf (λ k. ltb k n)
 below-outside n h = mask-of 65535 (λ k. ltb k n) (omega arith) (λ k l. ones-bit 16 k ∙ lt-ltb k 16 l ∙ sym (lt-ltb k n (omega arith)))
+
+-- `2 << n`, which loses no bit below 15
+shift-two : (n : ℕ) → n < 15 → 2 * 2 ^ n % 65536 ≡ 2 ^ suc n
+shift-two n h =
+    let double : 2 * 2 ^ n ≡ 2 ^ suc n = omega (arith, pow-suc 2 n) in
+    ap (λ (x : ℕ). x % 65536) double ∙ mod-eq-of-lt (pow-lt {j = 16} (omega arith))
+
+pub two-positive : (n : ℕ) → n < 15 → 1 ≤ 2 * 2 ^ n % 65536
+two-positive n h = rw (shift-two n h) (pow-pos (suc n))
+
+pub up-to-inside : (n : ℕ) → n < 15 → 2 * 2 ^ n % 65536 - 1 ≡ maskOf (λ k. leb k n)
+up-to-inside n h =
+    rw (shift-two n h)
+    (mask-of (2 ^ suc n - 1) (λ k. leb k n) (let p : 2 ^ suc n < 65536 = pow-lt {i = suc n} {j = 16} (omega arith) in omega (arith, p, pow-pos (suc n)))
+    (λ k l. ones-bit (suc n) k ∙ leb·suc-suc k n))
+
+pub up-to-outside : (n : ℕ) → 15 ≤ n → 65535 ≡ maskOf (λ k. leb k n)
+up-to-outside n h = mask-of 65535 (λ k. leb k n) (omega arith) (λ k l. ones-bit 16 k ∙ lt-ltb k 16 l ∙ sym (le-leb k n (omega arith)))

@@ -180,3 +180,6 @@ pub count-ext : (f g : ℕ → Bool) (k : ℕ) → k ≤ 16 → ((n : ℕ) → n
 unfolding countOf
 count-ext f g zero h e = refl
 count-ext f g (suc k) h e = ap₂ (λ (x : ℕ) (t : Bool). x + pick t 1 0) (count-ext f g k (omega arith) e) (e k (omega arith))
+
+pub count-mask : (f : ℕ → Bool) → countOf (bitOf (maskOf f)) 16 ≡ countOf f 16
+count-mask f = count-ext (bitOf (maskOf f)) f 16 (le-refl 16) (λ n l. bit-mask f n l)

@@ -2,8 +2,8 @@
 // Every function answers for every number: one from NONE on names no buffer.
 ghost use mathlib.Core.Path.{_≡_};
 ghost use mathlib.Core.Bool.{_||_, _&&_, not};
-ghost use lib.Dec.{eqb, ltb};
-ghost use Rattle.masks.specs.Bits.{bitOf, maskOf, putBit, lowest, highest, someOf};
+ghost use lib.Dec.{eqb, ltb, leb};
+ghost use Rattle.masks.specs.Bits.{bitOf, maskOf, putBit, lowest, highest, someOf, countOf};
 
 // The number that stands for no buffer.
 pub const NONE: u8 = 16;
@@ -27,6 +27,13 @@ pub fn below(n: u8) -> u16
     ensures { λ r. ⌜ r ≡ maskOf (λ k. ltb k n) ⌝ }
 {
     if n < 16 { (1 << n) - 1 } else { 0xFFFF }
+}
+
+// The mask of the buffers up to n, that one included.
+pub fn up_to(n: u8) -> u16
+    ensures { λ r. ⌜ r ≡ maskOf (λ k. leb k n) ⌝ }
+{
+    if n < 15 { (2 << n) - 1 } else { 0xFFFF }
 }
 
 // The mask with buffer n.
@@ -73,4 +80,11 @@ pub fn highest_of(m: u16) -> u8
     } else {
         (15 - u16::leading_zeros(m)) as u8
     }
+}
+
+// How many buffers are in the mask.
+pub fn count(m: u16) -> u8
+    ensures { λ r. ⌜ r ≡ countOf (bitOf m) 16 ⌝ }
+{
+    u16::count_ones(m) as u8
 }

@@ -13,6 +13,8 @@ use Rattle.rules.specs.Answers.{wordOf, detailOf}
 use Rattle.rules.specs.Flags.{linesOf}
 use Rattle.rules.specs.KeptLinesLaws.{keepsLines}
 use Rattle.controller.specs.declared.Controller.{Controller}
+use Rattle.controller.specs.declared.Answered.{Answered}
+use Rattle.report.specs.declared.Number.{Number}
 use Rattle.lines.specs.declared.Found.{Found}
 use Rattle.lines.specs.Grammar.{lineOf}
 use Rattle.lines.specs.Found.{noneFound, foundAt}
@@ -152,16 +154,21 @@ pub record Unreads (piece out : List ℕ) (t r : At) (out′ : List ℕ) : Type 
       (r ≡ passes t (endAt piece (t .from) + 1) (t .irq) (t .tally) (t .written) (length piece) (length out)) × (out′ ≡ out)
   pub shown : endAt piece (t .from) < length piece → isRead (t .number) ≡ true →
       (r ≡ passes t (endAt piece (t .from) + 1) (t .irq) (unreadOf (t .tally)) (r .written) (length piece) (length out))
-      × Put out (t .written) (shownIf (t .rows) (fitting out (t .written) (numberedRow (t .digits) unreadText (45 ∷ []) (t .irq)))) out′ (r .written)
+      × Put out (t .written) (shownIf (t .rows) (fitting out (t .written) (numberedRow (t .digits) unreadText (45 ∷ []) (t .irq) 0))) out′ (r .written)
+
+-- the row of an answer, out of the room that its step left
+abbrev pub answerRow : Number → Answered → List ℕ → ℕ → List ℕ
+answerRow x a room irq =
+    numberedRow x (wordText (wordOf (a .answer))) (detailText (detailOf (a .answer) (take 14 (take (sentSize (a .answer) (length room)) room)))) irq (a .looked)
 
 -- `answered`, at the LF at index at
-pub record Answers (room : List ℕ) (end : ℕ) (out : List ℕ) (t : At) (at : ℕ) (a : Answer) (irq : ℕ) (r : At) (room′ out′ : List ℕ) : Type 0 where
-  pub passed : r ≡ passes t (at + 1) irq (countedOf (t .tally) a) (r .written) end (length out)
-  pub put : Put out (t .written) (shownIf (t .rows) (fitting out (t .written) (numberedRow (t .digits) (wordText (wordOf a)) (detailText (detailOf a (take 14 (take (sentSize a (length room)) room)))) irq))) out′ (r .written)
-  pub clear : room′ ≡ clearedBy a room
+pub record Answers (room : List ℕ) (end : ℕ) (out : List ℕ) (t : At) (at : ℕ) (a : Answered) (irq : ℕ) (r : At) (room′ out′ : List ℕ) : Type 0 where
+  pub passed : r ≡ passes t (at + 1) irq (countedOf (t .tally) (a .answer)) (r .written) end (length out)
+  pub put : Put out (t .written) (shownIf (t .rows) (fitting out (t .written) (answerRow (t .digits) a room irq))) out′ (r .written)
+  pub clear : room′ ≡ clearedBy (a .answer) room
 
 -- `turned`: the step f was answered, or there is none
-pub record Turned (room piece out : List ℕ) (t : At) (f : Found) (a : Answer) (irq : ℕ) (r : At) (room′ out′ : List ℕ) : Type 0 where
+pub record Turned (room piece out : List ℕ) (t : At) (f : Found) (a : Answered) (irq : ℕ) (r : At) (room′ out′ : List ℕ) : Type 0 where
   pub none : f .at ≡ 0 → Unreads piece out t r out′ × (room′ ≡ room)
   pub step : 0 < f .at → f .at < length piece → Answers room (length piece) out t (f .at) a irq r room′ out′
 

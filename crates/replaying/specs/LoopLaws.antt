@@ -16,10 +16,11 @@ use Rattle.rules.specs.declared.Answer.{Answer}
 use Rattle.rules.specs.Answers.{Detail, wordOf, detailOf}
 use Rattle.rules.specs.Flags.{linesOf}
 use Rattle.controller.specs.declared.Controller.{Controller}
+use Rattle.controller.specs.declared.Answered.{Answered}
 use Rattle.controller.specs.declared.Call.{Call}
 use Rattle.controller.specs.Carry.{Outcome}
 use Rattle.controller.specs.Session.{stepOf}
-use Rattle.controller.specs.Calls.{doneOf, stepFor, roomFor}
+use Rattle.controller.specs.Calls.{answeredOf, stepFor, roomFor}
 use Rattle.lines.specs.declared.FrameBytes.{FrameBytes}
 use Rattle.lines.specs.declared.Line.{Line}
 use Rattle.lines.specs.declared.Line.the-variants.{Means, Unread}
@@ -49,7 +50,7 @@ use Rattle.rules.specs.KeptLinesLaws.{keepsLines}
 use Rattle.controller.specs.KeptLinesLaws.{lines-kept}
 use Rattle.controller.specs.Unchanged.{read-unchanged}
 use Rattle.replaying.specs.SentLaws.{sentSize, detail-shown, clearedBy, room-cleared, sent-fits}
-use Rattle.replaying.specs.CodeLoop.{shownIf, shownBy, needOf, goesOn, passes, stops, linesAfter, unreadOf, countedOf, soughtOf, left, endAt, Unreads, Answers, Turned, feedAt, takenBy, Open, Over, Standing, Turns, Played, Plays}
+use Rattle.replaying.specs.CodeLoop.{answerRow, shownIf, shownBy, needOf, goesOn, passes, stops, linesAfter, unreadOf, countedOf, soughtOf, left, endAt, Unreads, Answers, Turned, feedAt, takenBy, Open, Over, Standing, Turns, Played, Plays}
 
 true-false : {G : Type 0} {y : Bool} → y ≡ true → y ≡ false → G
 true-false p q = absurd (false≢true (sym q ∙ p))
@@ -194,7 +195,7 @@ by-small : (p : Player) (n : ℕ) (l : Line) (f : FrameBytes) → length (rowBy 
 unfolding rowBy stepRow
 by-small p n (Means call) f =
     let o : Outcome = stepOf (p .controller) (stepIn call f) in
-    length-row n (wordOf (o .answer)) (detailOf (o .answer) (o .sent)) (linesOf (o .next .control)) (frame-sent (o .answer) (o .sent) (sent-fits (p .controller) (stepIn call f)))
+    length-row n (wordOf (o .answer)) (detailOf (o .answer) (o .sent)) (linesOf (o .next .control)) (o .looked) (frame-sent (o .answer) (o .sent) (sent-fits (p .controller) (stepIn call f)))
 by-small p n Unread f = length-unread n (linesOf (p .controller .control))
 
 pub show-small : (p : Player) (n : ℕ) (e : Bool) (l : List ℕ) → length (showRow p n e l) ≤ 64
@@ -264,7 +265,7 @@ module _ {s₀ : Feed Player} {piece out₀ : List ℕ} where
   -- a line that is no step
   open-unread : {c : Controller} {h : Held} {t : At} {out : List ℕ} → Open s₀ piece out₀ c h t out → t .written + needOf (t .rows) ≤ length out₀ →
       t .from < length piece → getD piece (t .from) 0 ≡ 10 → (written : ℕ) (out′ : List ℕ) (size : ℕ) → isRead (t .number) ≡ true → lineOf (lineIn h) .line ≡ Unread →
-      Put out (t .written) (shownIf (t .rows) (fitting out (t .written) (numberedRow (t .digits) unreadText (45 ∷ []) (t .irq)))) out′ written →
+      Put out (t .written) (shownIf (t .rows) (fitting out (t .written) (numberedRow (t .digits) unreadText (45 ∷ []) (t .irq) 0))) out′ written →
       Open s₀ piece out₀ c noneHeld (passes t (t .from + 1) (t .irq) (unreadOf (t .tally)) written (length piece) size) out′
   unfolding play playedBy showRow rowBy
   open-unread {c} {h} {t} {out} o r l lf written out′ size e u w =
@@ -274,31 +275,32 @@ module _ {s₀ : Feed Player} {piece out₀ : List ℕ} where
       (pick-true _ _ _ e ∙ ap (λ (x : Line). shownIf (t .rows) (rowBy (playerAt c t) (t .number) x (lineOf (lineIn h) .frame))) u
       ∙ ap (λ (n : ℕ). shownIf (t .rows) (unreadRow (t .number) n)) (sym (o .lines)))
       (row-small (t .rows) row (length-unread (t .number) (t .irq)))
-      (rw (row-fits (t .rows) out (t .written) row (room-for o r)) at (rw (ap (λ (x : Number). numberedRow x unreadText (45 ∷ []) (t .irq)) (o .digits e) ∙ unread-numbered (t .number) (t .irq)) at w))
+      (rw (row-fits (t .rows) out (t .written) row (room-for o r)) at (rw (ap (λ (x : Number). numberedRow x unreadText (45 ∷ []) (t .irq) 0) (o .digits e) ∙ unread-numbered (t .number) (t .irq)) at w))
 
   -- a step: done on the controller c, with its answer, the five lines after it, and the room, which was clear
   open-stepped : {c : Controller} {h : Held} {t : At} {out : List ℕ} → Open s₀ piece out₀ c h t out → t .written + needOf (t .rows) ≤ length out₀ →
-      t .from < length piece → getD piece (t .from) 0 ≡ 10 → (call : Call) (frame : FrameBytes) (a : Answer) (irq : ℕ) (room : List ℕ) (written : ℕ) (out′ : List ℕ) (size : ℕ) →
+      t .from < length piece → getD piece (t .from) 0 ≡ 10 → (call : Call) (frame : FrameBytes) (a : Answered) (irq : ℕ) (room : List ℕ) (written : ℕ) (out′ : List ℕ) (size : ℕ) →
       isRead (t .number) ≡ true → lineOf (lineIn h) ≡ record { line = Means call; frame = frame } →
-      a ≡ stepOf c (stepIn call frame) .answer → irq ≡ linesOf (stepOf c (stepIn call frame) .next .control) → room ≡ roomFor c call (replicate 14 0) →
-      Put out (t .written) (shownIf (t .rows) (fitting out (t .written) (numberedRow (t .digits) (wordText (wordOf a)) (detailText (detailOf a (take 14 (take (sentSize a (length room)) room)))) irq))) out′ written →
-      Open s₀ piece out₀ (stepOf c (stepIn call frame) .next) noneHeld (passes t (t .from + 1) irq (countedOf (t .tally) a) written (length piece) size) out′
+      a ≡ answeredOf (stepOf c (stepIn call frame)) → irq ≡ linesOf (stepOf c (stepIn call frame) .next .control) → room ≡ roomFor c call (replicate 14 0) →
+      Put out (t .written) (shownIf (t .rows) (fitting out (t .written) (answerRow (t .digits) a room irq))) out′ written →
+      Open s₀ piece out₀ (stepOf c (stepIn call frame) .next) noneHeld (passes t (t .from + 1) irq (countedOf (t .tally) (a .answer)) written (length piece) size) out′
   unfolding play playedBy showRow rowBy stepRow countedOf stepIn
   open-stepped {c} {h} {t} {out} o r l lf call frame a irq room written out′ size e p answer lines filled w =
       let y : Outcome = stepOf c (stepFor call (bytesIn frame) (replicate 14 0)) in
-      let xs : List ℕ = rowOf (t .number) (wordOf (y .answer)) (detailOf (y .answer) (y .sent)) (linesOf (y .next .control)) in
-      let is : numberedRow (t .digits) (wordText (wordOf a)) (detailText (detailOf a (take 14 (take (sentSize a (length room)) room)))) irq ≡ xs =
-      ap (λ (x : Number). numberedRow x (wordText (wordOf a)) (detailText (detailOf a (take 14 (take (sentSize a (length room)) room)))) irq) (o .digits e)
-      ∙ row-numbered (t .number) (wordOf a) (detailOf a (take 14 (take (sentSize a (length room)) room))) irq
-      ∙ ap (λ (x : Answer). rowOf (t .number) (wordOf x) (detailOf x (take 14 (take (sentSize x (length room)) room))) irq) answer
-      ∙ ap (λ (x : List ℕ). rowOf (t .number) (wordOf (y .answer)) (detailOf (y .answer) (take 14 (take (sentSize (y .answer) (length x)) x))) irq) filled
-      ∙ ap (λ (x : Detail). rowOf (t .number) (wordOf (y .answer)) x irq) (detail-shown c (bytesIn frame) (replicate 14 0) call)
-      ∙ ap (rowOf (t .number) (wordOf (y .answer)) (detailOf (y .answer) (y .sent))) lines in
-      open-passes o r l lf (y .next) irq (countedOf (t .tally) a) (shownIf (t .rows) xs) written out′ size lines
+      let xs : List ℕ = rowOf (t .number) (wordOf (y .answer)) (detailOf (y .answer) (y .sent)) (linesOf (y .next .control)) (y .looked) in
+      let is : answerRow (t .digits) a room irq ≡ xs =
+      ap (λ (x : Number). answerRow x a room irq) (o .digits e)
+      ∙ ap (λ (x : Answered). answerRow (numberOf (t .number)) x room irq) answer
+      ∙ ap (λ (x : List ℕ). answerRow (numberOf (t .number)) (answeredOf y) x irq) filled
+      ∙ row-numbered (t .number) (wordOf (y .answer)) (detailOf (y .answer) (take 14 (take (sentSize (y .answer) (length (roomFor c call (replicate 14 0)))) (roomFor c call (replicate 14 0))))) irq (y .looked)
+      ∙ ap (λ (x : Detail). rowOf (t .number) (wordOf (y .answer)) x irq (y .looked)) (detail-shown c (bytesIn frame) (replicate 14 0) call)
+      ∙ ap (λ (x : ℕ). rowOf (t .number) (wordOf (y .answer)) (detailOf (y .answer) (y .sent)) x (y .looked)) lines in
+      open-passes o r l lf (y .next) irq (countedOf (t .tally) (a .answer)) (shownIf (t .rows) xs) written out′ size lines
       (pick-true _ _ _ e ∙ ap (λ (x : Parsed). playedBy (playerAt c t) (x .line) (x .frame)) p
-      ∙ ap (λ (x : Answer). record { controller = y .next; tally = countedOf (t .tally) x }) (sym answer))
+      ∙ ap (λ (x : Answered). record { controller = y .next; tally = countedOf (t .tally) (x .answer) }) (sym answer))
       (pick-true _ _ _ e ∙ ap (λ (x : Parsed). shownIf (t .rows) (rowBy (playerAt c t) (t .number) (x .line) (x .frame))) p)
-      (row-small (t .rows) xs (length-row (t .number) (wordOf (y .answer)) (detailOf (y .answer) (y .sent)) (linesOf (y .next .control)) (frame-sent (y .answer) (y .sent) (sent-fits c (stepFor call (bytesIn frame) (replicate 14 0))))))
+      (row-small (t .rows) xs
+      (length-row (t .number) (wordOf (y .answer)) (detailOf (y .answer) (y .sent)) (linesOf (y .next .control)) (y .looked) (frame-sent (y .answer) (y .sent) (sent-fits c (stepFor call (bytesIn frame) (replicate 14 0))))))
       (rw (row-fits (t .rows) out (t .written) xs (room-for o r)) at (rw is at w))
 
 -- ---- a line done with
@@ -317,15 +319,15 @@ standing-passed {s₀} {piece} {out₀} {c} t {next} {irq} {tally} {written} {si
   ended (inr h) = inr (omega arith)
 
 -- an answer's row, and the room made clear
-pub answers : {room : List ℕ} {end : ℕ} {out : List ℕ} {t : At} {at : ℕ} {a : Answer} {irq : ℕ} {r : At} {room′ out′ : List ℕ} {k w size : ℕ} {tally : Tally} →
-    k ≡ sentSize a (length room) →
-    Put out (t .written) (shownIf (t .rows) (fitting out (t .written) (numberedRow (t .digits) (wordText (wordOf a)) (detailText (detailOf a (take 14 (take k room)))) irq))) out′ w →
-    room′ ≡ replicate k 0 ++ drop k room → tally ≡ countedOf (t .tally) a → size ≡ length out → r ≡ passes t (at + 1) irq tally w end size → Answers room end out t at a irq r room′ out′
+pub answers : {room : List ℕ} {end : ℕ} {out : List ℕ} {t : At} {at : ℕ} {a : Answered} {irq : ℕ} {r : At} {room′ out′ : List ℕ} {k w size : ℕ} {tally : Tally} →
+    k ≡ sentSize (a .answer) (length room) →
+    Put out (t .written) (shownIf (t .rows) (fitting out (t .written) (numberedRow (t .digits) (wordText (wordOf (a .answer))) (detailText (detailOf (a .answer) (take 14 (take k room)))) irq (a .looked)))) out′ w →
+    room′ ≡ replicate k 0 ++ drop k room → tally ≡ countedOf (t .tally) (a .answer) → size ≡ length out → r ≡ passes t (at + 1) irq tally w end size → Answers room end out t at a irq r room′ out′
 answers {room} {end} {out} {t} {at} {a} {irq} {r} {room′} {out′} {k} {w} {size} {tally} n p z i l q =
     let m : r .written ≡ w = ap (λ (x : At). x .written) q in
     record {
-      passed = q ∙ ap (λ (x : Tally). passes t (at + 1) irq x w end size) i ∙ ap (λ (x : ℕ). passes t (at + 1) irq (countedOf (t .tally) a) x end size) (sym m)
-          ∙ ap (passes t (at + 1) irq (countedOf (t .tally) a) (r .written) end) l;
+      passed = q ∙ ap (λ (x : Tally). passes t (at + 1) irq x w end size) i ∙ ap (λ (x : ℕ). passes t (at + 1) irq (countedOf (t .tally) (a .answer)) x end size) (sym m)
+          ∙ ap (passes t (at + 1) irq (countedOf (t .tally) (a .answer)) (r .written) end) l;
       put = rw m (rw n at p);
       clear = z ∙ ap (λ (x : ℕ). replicate x 0 ++ drop x room) n;
     }
@@ -370,7 +372,7 @@ module _ {piece out : List ℕ} {t r : At} {out′ : List ℕ} {at : ℕ} (e : a
 
   pub unreads-shown : at < length piece → isRead (t .number) ≡ true → {size w : ℕ} {tally : Tally} → size ≡ length out → tally ≡ unreadOf (t .tally) →
       r ≡ passes t (at + 1) (t .irq) tally w (length piece) size →
-      Put out (t .written) (shownIf (t .rows) (fitting out (t .written) (numberedRow (t .digits) unreadText (45 ∷ []) (t .irq)))) out′ w → Unreads piece out t r out′
+      Put out (t .written) (shownIf (t .rows) (fitting out (t .written) (numberedRow (t .digits) unreadText (45 ∷ []) (t .irq) 0))) out′ w → Unreads piece out t r out′
   unreads-shown h d {size} {w} {tally} l k q p =
       let n : r .written ≡ w = ap (λ (x : At). x .written) q in
       record {
@@ -448,10 +450,10 @@ lines-after c call frame a irq₀ irq answer before e =
     (λ k. e ∙ pick-false _ _ _ k)
 
 -- a line read, its step done, and its row written
-pub turns : {c : Controller} {room piece out : List ℕ} {t r : At} {c′ : Controller} {room₁ room′ out′ : List ℕ} {f : Found} {a : Answer} {irq : ℕ} →
+pub turns : {c : Controller} {room piece out : List ℕ} {t r : At} {c′ : Controller} {room₁ room′ out′ : List ℕ} {f : Found} {a : Answered} {irq : ℕ} →
     f ≡ soughtOf piece t →
-    (c′ ≡ doneOf (stepOf c (stepFor (f .call) (bytesIn (f .frame)) room)) .next) × (a ≡ doneOf (stepOf c (stepFor (f .call) (bytesIn (f .frame)) room)) .answer) × (room₁ ≡ roomFor c (f .call) room) →
-    irq ≡ linesAfter c′ a (t .irq) → Turned room₁ piece out t f a irq r room′ out′ → Turns c room piece out t r c′ room′ out′
+    (c′ ≡ stepOf c (stepFor (f .call) (bytesIn (f .frame)) room) .next) × (a ≡ answeredOf (stepOf c (stepFor (f .call) (bytesIn (f .frame)) room))) × (room₁ ≡ roomFor c (f .call) room) →
+    irq ≡ linesAfter c′ (a .answer) (t .irq) → Turned room₁ piece out t f a irq r room′ out′ → Turns c room piece out t r c′ room′ out′
 unfolding stepIn
 turns {c} {room} {piece} {out} {t} {r} {c′} {room₁} {room′} {out′} {f} {a} {irq} s e i w = by-place (f .at) refl where
   by-place : (k : ℕ) → f .at ≡ k → Turns c room piece out t r c′ room′ out′
@@ -481,8 +483,8 @@ turns {c} {room} {piece} {out} {t} {r} {c′} {room₁} {room′} {out′} {f} {
         short = λ m. rw (u .passed) (goes-within (t .rows) _ _ _ _ (ap (λ (x : At). x .more) (sym (u .passed)) ∙ m));
         rows = ap (λ (x : At). x .rows) (u .passed);
         clear = λ y.
-            u .clear ∙ ap (λ (x : List ℕ). clearedBy a x) (e .2 ∙ ap (roomFor c (f .call)) y)
-            ∙ ap (λ (x : Answer). clearedBy x (roomFor c (f .call) (replicate 14 0))) (rw y at (e .1)) ∙ room-cleared c (bytesIn (f .frame)) (f .call);
+            u .clear ∙ ap (λ (x : List ℕ). clearedBy (a .answer) x) (e .2 ∙ ap (roomFor c (f .call)) y)
+            ∙ ap (λ (x : Answered). clearedBy (x .answer) (roomFor c (f .call) (replicate 14 0))) (rw y at (e .1)) ∙ room-cleared c (bytesIn (f .frame)) (f .call);
         stands = λ y m s₀ out₀ q.
             let o = q .reached in
             let ready = q .ready m in
@@ -493,10 +495,10 @@ turns {c} {room} {piece} {out} {t} {r} {c′} {room₁} {room′} {out′} {f} {
             ∙ ap (λ (y : Found). record { line = Means (y .call); frame = y .frame }) (sym p) in
             let size : length out ≡ length out₀ = kept (o .put) in
             let next : c′ ≡ stepOf c (stepIn (f .call) (f .frame)) .next = rw y at (e .0) in
-            let answer : a ≡ stepOf c (stepIn (f .call) (f .frame)) .answer = rw y at (e .1) in
-            let irqs = lines-after c (f .call) (f .frame) a (t .irq) irq answer (o .lines) (i ∙ ap (λ (x : Controller). linesAfter x a (t .irq)) next) in
+            let answer : a ≡ answeredOf (stepOf c (stepIn (f .call) (f .frame))) = rw y at (e .1) in
+            let irqs = lines-after c (f .call) (f .frame) (a .answer) (t .irq) irq (ap (λ (x : Answered). x .answer) answer) (o .lines) (i ∙ ap (λ (x : Controller). linesAfter x (a .answer) (t .irq)) next) in
             let before : endAt piece (t .from) < length piece = omega arith in
-            rw next (standing-passed t (u .passed ∙ ap (λ (n : ℕ). passes t (n + 1) irq (countedOf (t .tally) a) (r .written) (length piece) (length out)) (sym place)) size
+            rw next (standing-passed t (u .passed ∙ ap (λ (n : ℕ). passes t (n + 1) irq (countedOf (t .tally) (a .answer)) (r .written) (length piece) (length out)) (sym place)) size
             (open-stepped (open-reaches o ready refl) ready before (end-lf piece (t .from) (o .high) before) (f .call) (f .frame) a irq room₁ (r .written) out′ (length out) d line answer irqs (rw y at (e .2)) (u .put)));
       }
 

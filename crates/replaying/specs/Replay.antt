@@ -43,7 +43,7 @@ playedBy p Unread f = record { controller = p .controller; tally = record { unre
 
 -- the row of a step
 unfoldable pub stepRow : ℕ → Outcome → List ℕ
-stepRow n o = rowOf n (wordOf (o .answer)) (detailOf (o .answer) (o .sent)) (linesOf (o .next .control))
+stepRow n o = rowOf n (wordOf (o .answer)) (detailOf (o .answer) (o .sent)) (linesOf (o .next .control)) (o .looked)
 
 -- the row of a line
 unfoldable pub rowBy : Player → ℕ → Line → FrameBytes → List ℕ

@@ -88,7 +88,7 @@ unfolding received judged found
 frame-quiet c hs good i =
     pick-keeps Quiet (not (c .mode .synced)) (λ t. ok _ refl)
     (λ t. pick-keeps Quiet (not good || eqb i 0) (λ u. ok _ refl)
-    (λ u. pick-keeps Quiet (ltb (lookup c hs i) 16) (λ x. buffer-quiet (raiseLast c i) (lookup c hs i)) (λ x. fifo-quiet (raiseLast c i) i)))
+    (λ u. ok _ (pick-keeps Quiet (ltb (lookup c hs i) 16) (λ x. buffer-quiet (raiseLast c i) (lookup c hs i)) (λ x. fifo-quiet (raiseLast c i) i) .quiet)))
 
 abbrev isSlot : Call → Bool
 isSlot Reset = false

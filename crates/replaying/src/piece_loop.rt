@@ -1,20 +1,20 @@
 // The loop over a piece's lines on a lent controller: a line's step is read, done, and its row is written; then the next.
 ghost use mathlib.Core.Path.{_≡_};
 ghost use Rattle.controller.specs.Session.{stepOf};
-ghost use Rattle.controller.specs.Calls.{doneOf, stepFor, roomFor};
+ghost use Rattle.controller.specs.Calls.{answeredOf, stepFor, roomFor};
 ghost use Rattle.lines.specs.Grammar.{bytesIn};
 ghost use Rattle.replaying.specs.CodeLoop.{Turns, Plays};
 use crate::At;
 use crate::Lent;
 use crate::turns;
+use controller::Answered;
 use controller::Call;
 use controller::Controller;
 use lines::FrameBytes;
-use rules::Answer;
 
 // The step on the lent controller, the frame's bytes being a value.
-fn step(c: &mut Controller, call: Call, f: FrameBytes, room: &mut [u8]) -> Answer
-    ensures { λ r. ⌜ (now (c .exit) ≡ doneOf (stepOf (now (c .entry)) (stepFor call (bytesIn f) (now (room .entry)))) .next) × (r ≡ doneOf (stepOf (now (c .entry)) (stepFor call (bytesIn f) (now (room .entry)))) .answer) × (now (room .exit) ≡ roomFor (now (c .entry)) call (now (room .entry))) ⌝ }
+fn step(c: &mut Controller, call: Call, f: FrameBytes, room: &mut [u8]) -> Answered
+    ensures { λ r. ⌜ (now (c .exit) ≡ stepOf (now (c .entry)) (stepFor call (bytesIn f) (now (room .entry))) .next) × (r ≡ answeredOf (stepOf (now (c .entry)) (stepFor call (bytesIn f) (now (room .entry))))) × (now (room .exit) ≡ roomFor (now (c .entry)) call (now (room .entry))) ⌝ }
 {
     let bytes = f.bytes;
     let n = lines::frame_size(f);

@@ -11,6 +11,7 @@ ghost use Rattle.replaying.specs.SentLaws.{sentSize};
 ghost use Rattle.replaying.specs.CodeLoop.{shownIf, needOf, goesOn, passes, stops, linesAfter, unreadOf, countedOf, soughtOf, Unreads, Answers, Turned};
 use crate::At;
 use crate::Tally;
+use controller::Answered;
 use controller::Controller;
 use lines::Found;
 use rules::Answer;
@@ -26,10 +27,11 @@ pub(crate) fn seek(piece: &[u8], t: At) -> Found
 }
 
 // The five lines after an answer: computed anew only where the answer can have changed them.
-pub(crate) fn lines_after(c: Controller, a: Answer, irq: u8) -> u8
-    ensures { λ r. ⌜ r ≡ linesAfter c a irq ⌝ }
+pub(crate) fn lines_after(c: Controller, a: Answered, irq: u8) -> u8
+    ensures { λ r. ⌜ r ≡ linesAfter c (a .answer) irq ⌝ }
 {
-    match a {
+    let answer = a.answer;
+    match answer {
         Answer::Value(_)
         | Answer::HeldOff(_)
         | Answer::Refused(_)
@@ -117,7 +119,7 @@ fn stopped(t: At) -> At
 
 // The row of a line that is no step, where rows are written.
 fn put_unread(out: &mut [u8], t: At) -> usize
-    ensures { λ r. ⌜ Put (now (out .entry)) (t .written) (shownIf (t .rows) (fitting (now (out .entry)) (t .written) (numberedRow (t .digits) unreadText (45 ∷ []) (t .irq)))) (now (out .exit)) r ⌝ }
+    ensures { λ r. ⌜ Put (now (out .entry)) (t .written) (shownIf (t .rows) (fitting (now (out .entry)) (t .written) (numberedRow (t .digits) unreadText (45 ∷ []) (t .irq) 0))) (now (out .exit)) r ⌝ }
 {
     let rows = t.rows;
     if !rows {
@@ -167,26 +169,35 @@ fn clear(room: &mut [u8], k: usize)
 }
 
 // The row of a step, where rows are written.
-fn put_row(out: &mut [u8], t: At, a: Answer, sent: &[u8], irq: u8) -> usize
-    ensures { λ r. ⌜ Put (now (out .entry)) (t .written) (shownIf (t .rows) (fitting (now (out .entry)) (t .written) (numberedRow (t .digits) (wordText (wordOf a)) (detailText (detailOf a (take 14 (now (sent .entry))))) irq))) (now (out .exit)) r ⌝ }
+fn put_row(out: &mut [u8], t: At, a: Answer, sent: &[u8], irq: u8, looked: u8) -> usize
+    ensures { λ r. ⌜ Put (now (out .entry)) (t .written) (shownIf (t .rows) (fitting (now (out .entry)) (t .written) (numberedRow (t .digits) (wordText (wordOf a)) (detailText (detailOf a (take 14 (now (sent .entry))))) irq looked))) (now (out .exit)) r ⌝ }
 {
     let rows = t.rows;
     if !rows {
         return t.written;
     }
-    report::row(out, t.written, t.digits, a, sent, irq)
+    report::row(out, t.written, t.digits, a, sent, irq, looked)
 }
 
 // The line's step, whose LF stands at index at, was answered so, with the lines irq after it and the room as it left it: its row.
-fn answered(room: &mut [u8], end: usize, out: &mut [u8], t: At, at: usize, a: Answer, irq: u8) -> At
+fn answered(
+    room: &mut [u8],
+    end: usize,
+    out: &mut [u8],
+    t: At,
+    at: usize,
+    a: Answered,
+    irq: u8,
+) -> At
     requires { ⌜ at < end ⌝ }
     ensures { λ r. ⌜ Answers (now (room .entry)) end (now (out .entry)) t at a irq r (now (room .exit)) (now (out .exit)) ⌝ }
 {
-    let k = sent_size(a, room.len());
-    let w = put_row(out, t, a, &room[..k], irq);
+    let answer = a.answer;
+    let k = sent_size(answer, room.len());
+    let w = put_row(out, t, answer, &room[..k], irq, a.looked);
     clear(room, k);
     let tally = t.tally;
-    passed(t, at + 1, irq, counted(tally, a), w, end, out.len())
+    passed(t, at + 1, irq, counted(tally, answer), w, end, out.len())
 }
 
 // The line where the loop stands is done with: its step f was answered so, or it has none.
@@ -196,7 +207,7 @@ pub(crate) fn turned(
     out: &mut [u8],
     t: At,
     f: Found,
-    a: Answer,
+    a: Answered,
     irq: u8,
 ) -> At
     ensures { λ r. ⌜ Turned (now (room .entry)) (now (piece .entry)) (now (out .entry)) t f a irq r (now (room .exit)) (now (out .exit)) ⌝ }

@@ -4,7 +4,7 @@ use mathlib.Core.List.{List, [], _∷_, _++_}
 use lib.Dec.{ltb}
 use Rattle.masks.specs.Pick.{pick}
 use Rattle.report.specs.declared.Number.{Number}
-use Rattle.report.specs.Text.{hexOf, widthOf, decimalOf}
+use Rattle.report.specs.Text.{widthOf, decimalOf, endText}
 
 -- the bytes xs below the word d, the first lowest
 unfoldable pub packOn : List ℕ → ℕ → ℕ
@@ -38,5 +38,5 @@ unfoldable pub numberText : Number → List ℕ
 numberText x = wordBytes (x .len % 8 + 1) (x .digits)
 
 -- a row by such a number
-unfoldable pub numberedRow : Number → List ℕ → List ℕ → ℕ → List ℕ
-numberedRow x word detail irq = numberText x ++ word ++ (9 ∷ []) ++ detail ++ (9 ∷ []) ++ hexOf irq ++ (10 ∷ [])
+unfoldable pub numberedRow : Number → List ℕ → List ℕ → ℕ → ℕ → List ℕ
+numberedRow x word detail irq looked = numberText x ++ word ++ (9 ∷ []) ++ detail ++ (9 ∷ []) ++ endText irq looked

@@ -17,7 +17,7 @@ use Rattle.rules.specs.declared.SyncKind.the-variants.{Normal, Alarm}
 use Rattle.rules.specs.declared.Answer.{Answer}
 use Rattle.rules.specs.declared.Answer.the-variants.{Ok, Value, Stored, Queued, HeldOff, Sent, Pulse, Refused, Overrun, Unmatched, BadFrame, Ignored, Woke, NotSent}
 use Rattle.rules.specs.Answers.{wordOf, Given, dash, value, buffer, counted, kind, number, givenOf, isSent, Detail, given, bytes, framed, detailOf}
-use Rattle.report.specs.Text.{hexOf, hexesOf, digitsOf, widthOf, decimalOf, wordTexts, wordText, unreadText, kindText, givenText, detailText, rowText, rowOf, unreadRow, headingOf, Put, Wrote, fitting}
+use Rattle.report.specs.Text.{hexOf, hexesOf, digitsOf, widthOf, decimalOf, wordTexts, wordText, unreadText, kindText, givenText, detailText, countText, endText, rowText, rowOf, unreadRow, headingOf, Put, Wrote, fitting}
 
 -- ---- texts one behind the other
 
@@ -177,6 +177,9 @@ length-digits (suc k) n = length-append (digitsOf k (n / 10)) ((48 + n % 10) ∷
 pick-le : (b : Bool) (x y k : ℕ) → x ≤ k → y ≤ k → pick b x y ≤ k
 pick-le b x y k p q = pick-keeps (λ (n : ℕ). n ≤ k) b (λ _. p) (λ _. q)
 
+pick-ge : (b : Bool) (x y : ℕ) → 1 ≤ x → 1 ≤ y → 1 ≤ pick b x y
+pick-ge b x y p q = pick-keeps (λ (n : ℕ). 1 ≤ n) b (λ _. p) (λ _. q)
+
 pub width-le : (n : ℕ) → widthOf n ≤ 6
 unfolding widthOf
 width-le n =
@@ -186,6 +189,16 @@ width-le n =
 length-decimal : (n : ℕ) → length (decimalOf n) ≤ 6
 unfolding decimalOf
 length-decimal n = let e : length (digitsOf (widthOf n) n) ≡ widthOf n = length-digits (widthOf n) n in let h : widthOf n ≤ 6 = width-le n in omega arith
+
+width-some : (n : ℕ) → 1 ≤ widthOf n
+unfolding widthOf
+width-some n =
+    pick-ge (ltb n 10) 1 _ (omega arith) (pick-ge (ltb n 100) 2 _ (omega arith)
+    (pick-ge (ltb n 1000) 3 _ (omega arith) (pick-ge (ltb n 10000) 4 _ (omega arith) (pick-ge (ltb n 100000) 5 6 (omega arith) (omega arith)))))
+
+decimal-some : (n : ℕ) → 1 ≤ length (decimalOf n)
+unfolding decimalOf
+decimal-some n = omega (arith, length-digits (widthOf n) n, width-some n)
 
 pub length-hex : (v : ℕ) → length (hexOf v) ≡ 2
 unfolding hexOf
@@ -265,25 +278,23 @@ frame-framed false g f h = omega arith
 pub frame-sent : (a : Answer) (f : List ℕ) → length f ≤ 14 → length (frameIn (detailOf a f)) ≤ 14
 frame-sent a f h = frame-framed (isSent a) (givenOf a) f h
 
--- a row's parts: at most 6, 9, 28 and 2 bytes, and four for the tabs and LF
-row-le : (n : ℕ) (word detail : List ℕ) (irq : ℕ) → length word ≤ 9 → length detail ≤ 28 → length (rowText n word detail irq) ≤ 64
+pub length-end : (irq looked : ℕ) → (5 ≤ length (endText irq looked)) × (length (endText irq looked) ≤ 10)
+unfolding endText countText
+length-end irq looked = simp length-append (omega (arith, length-hex irq, decimal-some looked), omega (arith, length-hex irq, length-decimal looked))
+
+-- a row's parts: at most 6, 9, 28 and 10 bytes, and three tabs
+row-le : (n : ℕ) (word detail : List ℕ) (irq looked : ℕ) → length word ≤ 9 → length detail ≤ 28 → length (rowText n word detail irq looked) ≤ 64
 unfolding rowText
-row-le n word detail irq p q = simp length-append (omega (arith, length-decimal n, length-hex irq))
+row-le n word detail irq looked p q = simp length-append (omega (arith, length-decimal n, length-end irq looked .1))
 
 -- no row is longer than the room that is asked for it
-pub length-row : (n w : ℕ) (d : Detail) (irq : ℕ) → length (frameIn d) ≤ 14 → length (rowOf n w d irq) ≤ 64
-length-row n w d irq h = row-le n (wordText w) (detailText d) irq (length-word w) (length-detail d h)
-
--- the row that is put for a step, whatever frame comes with its answer
-pub length-step : (n : ℕ) (a : Answer) (f : List ℕ) (irq : ℕ) → length (rowOf n (wordOf a) (detailOf a (take 14 f)) irq) ≤ 64
-length-step n a f irq =
-    let h : length (take 14 f) ≤ 14 = rw length-take (min-le-left 14 (length f)) in
-    length-row n (wordOf a) (detailOf a (take 14 f)) irq (frame-sent a (take 14 f) h)
+pub length-row : (n w : ℕ) (d : Detail) (irq looked : ℕ) → length (frameIn d) ≤ 14 → length (rowOf n w d irq looked) ≤ 64
+length-row n w d irq looked h = row-le n (wordText w) (detailText d) irq looked (length-word w) (length-detail d h)
 
 pub length-unread : (n irq : ℕ) → length (unreadRow n irq) ≤ 64
 unfolding unreadText
-length-unread n irq = row-le n unreadText (45 ∷ []) irq (omega arith) (omega arith)
+length-unread n irq = row-le n unreadText (45 ∷ []) irq 0 (omega arith) (omega arith)
 
-pub length-heading : length headingOf ≡ 23
+pub length-heading : length headingOf ≡ 30
 unfolding headingOf
 length-heading = refl

@@ -10,8 +10,8 @@ use lib.Dec.{ltb}
 use Rattle.masks.specs.PickLaws.{pick-true, pick-false, pick-keeps, by-test}
 use Rattle.rules.specs.Answers.{Detail}
 use Rattle.report.specs.declared.Number.{Number}
-use Rattle.report.specs.Text.{hexOf, widthOf, digitsOf, decimalOf, wordText, unreadText, detailText, rowText, rowOf, unreadRow, Put}
-use Rattle.report.specs.Laws.{then, covers, width-le, length-digits, length-hex}
+use Rattle.report.specs.Text.{widthOf, digitsOf, decimalOf, wordText, unreadText, detailText, endText, rowText, rowOf, unreadRow, Put}
+use Rattle.report.specs.Laws.{then, covers, width-le, length-digits, length-end}
 use Rattle.report.specs.CodeNumbers.{packOn, grown, wordBytes, numberOf, countedUp, nextNumber, numberText, numberedRow}
 
 -- ---- bytes higher
@@ -206,16 +206,16 @@ number-text n =
 
 -- ---- rows
 
-row-is : (n : ℕ) (word detail : List ℕ) (irq : ℕ) → numberedRow (numberOf n) word detail irq ≡ rowText n word detail irq
+row-is : (n : ℕ) (word detail : List ℕ) (irq looked : ℕ) → numberedRow (numberOf n) word detail irq looked ≡ rowText n word detail irq looked
 unfolding numberedRow rowText
-row-is n word detail irq = simp (number-text, append-assoc)
+row-is n word detail irq looked = simp (number-text, append-assoc)
 
 -- a row by a number that is kept is the row of document 01
-pub row-numbered : (n w : ℕ) (d : Detail) (irq : ℕ) → numberedRow (numberOf n) (wordText w) (detailText d) irq ≡ rowOf n w d irq
-row-numbered n w d irq = row-is n (wordText w) (detailText d) irq
+pub row-numbered : (n w : ℕ) (d : Detail) (irq looked : ℕ) → numberedRow (numberOf n) (wordText w) (detailText d) irq looked ≡ rowOf n w d irq looked
+row-numbered n w d irq looked = row-is n (wordText w) (detailText d) irq looked
 
-pub unread-numbered : (n irq : ℕ) → numberedRow (numberOf n) unreadText (45 ∷ []) irq ≡ unreadRow n irq
-unread-numbered n irq = row-is n unreadText (45 ∷ []) irq
+pub unread-numbered : (n irq : ℕ) → numberedRow (numberOf n) unreadText (45 ∷ []) irq 0 ≡ unreadRow n irq
+unread-numbered n irq = row-is n unreadText (45 ∷ []) irq 0
 
 bytes-front : (k n d : ℕ) → k ≤ n → wordBytes n d ≡ wordBytes k d ++ drop k (wordBytes n d)
 unfolding wordBytes
@@ -223,18 +223,35 @@ bytes-front zero n d h = refl
 bytes-front (suc k) zero d h = absurd (omega arith)
 bytes-front (suc k) (suc n) d h = ap (λ (l : List ℕ). d % 256 ∷ l) (bytes-front k n (d / 256) (omega arith))
 
-row-parts : (x : Number) (word detail : List ℕ) (irq : ℕ) → numberedRow x word detail irq ≡ numberText x ++ (word ++ (9 ∷ []) ++ detail ++ (9 ∷ []) ++ (hexOf irq ++ (10 ∷ [])))
+row-parts : (x : Number) (word detail : List ℕ) (irq looked : ℕ) → numberedRow x word detail irq looked ≡ numberText x ++ (word ++ (9 ∷ []) ++ detail ++ (9 ∷ []) ++ endText irq looked)
 unfolding numberedRow
-row-parts x word detail irq = simp append-assoc
+row-parts x word detail irq looked = simp append-assoc
 
 -- eight bytes for the number, and the rest of the row over those that are too many
-pub row-over : {o p q s : List ℕ} {at r t u : ℕ} (x : Number) (word detail : List ℕ) (irq : ℕ) → 2 ≤ length word
+pub row-over : {o p q s : List ℕ} {at r t u : ℕ} (x : Number) (word detail : List ℕ) (irq looked : ℕ) → 2 ≤ length word
     → (r ≡ at + length (numberText x)) × (p ≡ sets o at (wordBytes 8 (x .digits))) → Put p r (word ++ (9 ∷ []) ++ detail ++ (9 ∷ [])) q t
-    → Put q t (hexOf irq ++ (10 ∷ [])) s u → Put o at (numberedRow x word detail irq) s u
+    → Put q t (endText irq looked) s u → Put o at (numberedRow x word detail irq looked) s u
 unfolding numberText
-row-over {o} x word detail irq two e a b =
+row-over {o} x word detail irq looked two e a b =
     let k : ℕ = x .len % 8 + 1 in
     let junk : length (drop k (wordBytes 8 (x .digits))) ≤ 7 = simp (length-drop, length-bytes) (omega arith) in
-    let rest : 7 ≤ length (word ++ (9 ∷ []) ++ detail ++ (9 ∷ []) ++ (hexOf irq ++ (10 ∷ []))) = simp length-append (omega (arith, length-hex irq)) in
+    let rest : 7 ≤ length (word ++ (9 ∷ []) ++ detail ++ (9 ∷ []) ++ endText irq looked) = simp length-append (omega (arith, length-end irq looked .0)) in
     rw row-parts
     (covers (wordBytes k (x .digits)) (drop k (wordBytes 8 (x .digits))) (e .1 ∙ ap (sets o _) (bytes-front k 8 (x .digits) (omega arith))) (e .0) (omega arith) (then a b))
+
+-- ---- a count of one, two or three digits
+
+pub decimal-one : (k : ℕ) → k < 10 → (48 + k) ∷ [] ≡ decimalOf k
+unfolding decimalOf widthOf digitsOf
+decimal-one k h = let d : k % 10 ≡ k = omega arith in simp (pick-true, lt-ltb k 10 h, d)
+
+pub decimal-two : (k : ℕ) → 10 ≤ k → k < 100 → (48 + k / 10) ∷ (48 + k % 10) ∷ [] ≡ decimalOf k
+unfolding decimalOf widthOf digitsOf
+decimal-two k l h = let d : k / 10 % 10 ≡ k / 10 = omega arith in simp (pick-true, pick-false, le-ltb k 10 l, lt-ltb k 100 h, d)
+
+pub decimal-three : (k : ℕ) → 100 ≤ k → k < 1000 → (48 + k / 100) ∷ (48 + k / 10 % 10) ∷ (48 + k % 10) ∷ [] ≡ decimalOf k
+unfolding decimalOf widthOf digitsOf
+decimal-three k l h =
+    let d : k / 10 / 10 % 10 ≡ k / 100 = omega arith in
+    let far : 10 ≤ k = omega arith in
+    simp (pick-true, pick-false, le-ltb k 10 far, le-ltb k 100 l, lt-ltb k 1000 h, d)

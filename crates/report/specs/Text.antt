@@ -84,22 +84,32 @@ unfoldable pub detailText : Detail → List ℕ
 detailText (given g) = givenText g
 detailText (bytes k f) = hexesOf f
 
--- ---- rows: number, answer, detail and the five lines, parted by tabs, ended by LF
+-- ---- rows: number, answer, detail, the five lines and how many buffers were examined, parted by tabs, ended by LF
 
-unfoldable pub rowText : ℕ → List ℕ → List ℕ → ℕ → List ℕ
-rowText n word detail irq = decimalOf n ++ (9 ∷ []) ++ word ++ (9 ∷ []) ++ detail ++ (9 ∷ []) ++ hexOf irq ++ (10 ∷ [])
+-- W8: "a fifth field, decimal"
+unfoldable pub countText : ℕ → List ℕ
+countText looked = (9 ∷ []) ++ decimalOf looked ++ (10 ∷ [])
+
+-- a row from its five lines on
+unfoldable pub endText : ℕ → ℕ → List ℕ
+endText irq looked = hexOf irq ++ countText looked
+
+unfoldable pub rowText : ℕ → List ℕ → List ℕ → ℕ → ℕ → List ℕ
+rowText n word detail irq looked = decimalOf n ++ (9 ∷ []) ++ word ++ (9 ∷ []) ++ detail ++ (9 ∷ []) ++ endText irq looked
 
 -- the row of a step
-abbrev pub rowOf : ℕ → ℕ → Detail → ℕ → List ℕ
-rowOf n w d irq = rowText n (wordText w) (detailText d) irq
+abbrev pub rowOf : ℕ → ℕ → Detail → ℕ → ℕ → List ℕ
+rowOf n w d irq looked = rowText n (wordText w) (detailText d) irq looked
 
--- the row of a line that is no step
+-- the row of a line that is no step: nothing was looked up
 abbrev pub unreadRow : ℕ → ℕ → List ℕ
-unreadRow n irq = rowText n unreadText (45 ∷ []) irq
+unreadRow n irq = rowText n unreadText (45 ∷ []) irq 0
 
--- "Output starts with a fixed heading": line, answer, detail, irq
+-- "Output starts with a fixed heading": line, answer, detail, irq, and looked (W8)
 unfoldable pub headingOf : List ℕ
-headingOf = 108 ∷ 105 ∷ 110 ∷ 101 ∷ 9 ∷ 97 ∷ 110 ∷ 115 ∷ 119 ∷ 101 ∷ 114 ∷ 9 ∷ 100 ∷ 101 ∷ 116 ∷ 97 ∷ 105 ∷ 108 ∷ 9 ∷ 105 ∷ 114 ∷ 113 ∷ 10 ∷ []
+headingOf =
+    108 ∷ 105 ∷ 110 ∷ 101 ∷ 9 ∷ 97 ∷ 110 ∷ 115 ∷ 119 ∷ 101 ∷ 114 ∷ 9 ∷ 100 ∷ 101 ∷ 116 ∷ 97 ∷ 105 ∷ 108 ∷ 9 ∷ 105 ∷ 114 ∷ 113
+    ∷ 9 ∷ 108 ∷ 111 ∷ 111 ∷ 107 ∷ 101 ∷ 100 ∷ 10 ∷ []
 
 -- ---- writing
 

@@ -95,23 +95,32 @@ fn fits(size: usize, at: usize) -> bool
     at <= size - 64
 }
 
-// The row of a step: its line's number, its answer with the frame that was sent, of which only fourteen bytes count, and the five
-// lines after it. Answers the index behind the row. Where fewer than 64 bytes are left, nothing is written and the index stays.
-pub fn row(out: &mut [u8], at: usize, x: Number, a: Answer, sent: &[u8], irq: u8) -> usize
-    ensures { λ r. ⌜ Put (now (out .entry)) at (fitting (now (out .entry)) at (numberedRow x (wordText (wordOf a)) (detailText (detailOf a (take 14 (now (sent .entry))))) irq)) (now (out .exit)) r ⌝ }
+// The row of a step: its line's number, its answer with the frame that was sent, of which only fourteen bytes count, the five lines
+// after it, and how many buffers were examined. Answers the index behind the row. Where fewer than 64 bytes are left, nothing is written
+// and the index stays.
+pub fn row(
+    out: &mut [u8],
+    at: usize,
+    x: Number,
+    a: Answer,
+    sent: &[u8],
+    irq: u8,
+    looked: u8,
+) -> usize
+    ensures { λ r. ⌜ Put (now (out .entry)) at (fitting (now (out .entry)) at (numberedRow x (wordText (wordOf a)) (detailText (detailOf a (take 14 (now (sent .entry))))) irq looked)) (now (out .exit)) r ⌝ }
 {
     if !fits(out.len(), at) {
         return at;
     }
     if 14 < sent.len() {
-        return texts::row(out, at, x, a, &sent[..14], irq);
+        return texts::row(out, at, x, a, &sent[..14], irq, looked);
     }
-    texts::row(out, at, x, a, sent, irq)
+    texts::row(out, at, x, a, sent, irq, looked)
 }
 
 // The row of a line that is no step, in the same way.
 pub fn unread_row(out: &mut [u8], at: usize, x: Number, irq: u8) -> usize
-    ensures { λ r. ⌜ Put (now (out .entry)) at (fitting (now (out .entry)) at (numberedRow x unreadText (45 ∷ []) irq)) (now (out .exit)) r ⌝ }
+    ensures { λ r. ⌜ Put (now (out .entry)) at (fitting (now (out .entry)) at (numberedRow x unreadText (45 ∷ []) irq 0)) (now (out .exit)) r ⌝ }
 {
     if !fits(out.len(), at) {
         return at;
@@ -126,5 +135,5 @@ pub fn heading(out: &mut [u8], at: usize) -> usize
     if !fits(out.len(), at) {
         return at;
     }
-    puts::put(out, at, b"line\tanswer\tdetail\tirq\n")
+    puts::put(out, at, b"line\tanswer\tdetail\tirq\tlooked\n")
 }

@@ -5,7 +5,7 @@ ghost use Prim.Native.Nat.{_+_, _<_, _≤_};
 ghost use lib.ListN.{length};
 ghost use lib.Seq.{sets};
 ghost use Rattle.rules.specs.Answers.{wordOf, detailOf};
-ghost use Rattle.report.specs.Text.{Put, digitOf, hexOf, hexesOf, wordText, unreadText, kindText, detailText};
+ghost use Rattle.report.specs.Text.{Put, digitOf, hexOf, hexesOf, wordText, unreadText, kindText, detailText, countText, endText};
 ghost use Rattle.report.specs.CodeNumbers.{wordBytes, numberText, numberedRow};
 use crate::Number;
 use crate::puts::put_byte;
@@ -97,13 +97,13 @@ fn hexes(out: &mut [u8], at: usize, s: &[u8]) -> usize
     next
 }
 
-// A value and the byte behind it.
-fn hex_field(out: &mut [u8], at: usize, v: u8, after: u8) -> usize
+// A value and a tab.
+fn hex_field(out: &mut [u8], at: usize, v: u8) -> usize
     requires { ⌜ at + 3 ≤ length (now out) ⌝ }
-    ensures { λ r. ⌜ Put (now (out .entry)) at (hexOf v ++ (after ∷ [])) (now (out .exit)) r ⌝ }
+    ensures { λ r. ⌜ Put (now (out .entry)) at (hexOf v ++ (9 ∷ [])) (now (out .exit)) r ⌝ }
 {
     let at = hex(out, at, v);
-    put_byte(out, at, after)
+    put_byte(out, at, b'\t')
 }
 
 // A frame and a tab.
@@ -134,19 +134,19 @@ fn answer(out: &mut [u8], at: usize, a: Answer, sent: &[u8]) -> usize
         Answer::Ok => put5(out, at, b"ok\t-\t"),
         Answer::Value(v) => {
             let at = put5(out, at, b"read\t");
-            hex_field(out, at, v, b'\t')
+            hex_field(out, at, v)
         }
         Answer::Stored(n) => {
             let at = put7(out, at, b"stored\t");
-            hex_field(out, at, n, b'\t')
+            hex_field(out, at, n)
         }
         Answer::Queued(n) => {
             let at = put7(out, at, b"queued\t");
-            hex_field(out, at, n, b'\t')
+            hex_field(out, at, n)
         }
         Answer::HeldOff(n) => {
             let at = put8(out, at, b"heldoff\t");
-            hex_field(out, at, n, b'\t')
+            hex_field(out, at, n)
         }
         Answer::Sent(_) => {
             let at = put5(out, at, b"sent\t");
@@ -155,7 +155,7 @@ fn answer(out: &mut [u8], at: usize, a: Answer, sent: &[u8]) -> usize
         Answer::Pulse(k) => pulse(out, at, k),
         Answer::Refused(r) => {
             let at = put8(out, at, b"refused\t");
-            hex_field(out, at, r, b'\t')
+            hex_field(out, at, r)
         }
         Answer::Overrun => {
             let at = put7(out, at, b"overrun");
@@ -181,22 +181,66 @@ fn answer(out: &mut [u8], at: usize, a: Answer, sent: &[u8]) -> usize
     }
 }
 
+// A count in decimal, between its tab and the row's LF. Most rows have a 0 here, and none has more than 16.
+fn count(out: &mut [u8], at: usize, k: u8) -> usize
+    requires { ⌜ at + 5 ≤ length (now out) ⌝ }
+    ensures { λ r. ⌜ Put (now (out .entry)) at (countText k) (now (out .exit)) r ⌝ }
+{
+    if k == 0 {
+        return put3(out, at, b"\t0\n");
+    }
+    if k < 10 {
+        let w = [b'\t', b'0' + k, b'\n'];
+        return put3(out, at, &w);
+    }
+    if k < 100 {
+        let at = put_byte(out, at, b'\t');
+        let w = [b'0' + k / 10, b'0' + k % 10, b'\n'];
+        return put3(out, at, &w);
+    }
+    let w = [
+        b'\t',
+        b'0' + k / 100,
+        b'0' + k / 10 % 10,
+        b'0' + k % 10,
+        b'\n',
+    ];
+    put5(out, at, &w)
+}
+
+// The five lines and the count, a row's end.
+fn end(out: &mut [u8], at: usize, irq: u8, looked: u8) -> usize
+    requires { ⌜ at + 7 ≤ length (now out) ⌝ }
+    ensures { λ r. ⌜ Put (now (out .entry)) at (endText irq looked) (now (out .exit)) r ⌝ }
+{
+    let at = hex(out, at, irq);
+    count(out, at, looked)
+}
+
 // The row of a step.
-pub(crate) fn row(out: &mut [u8], at: usize, x: Number, a: Answer, sent: &[u8], irq: u8) -> usize
+pub(crate) fn row(
+    out: &mut [u8],
+    at: usize,
+    x: Number,
+    a: Answer,
+    sent: &[u8],
+    irq: u8,
+    looked: u8,
+) -> usize
     requires { ⌜ (at + 64 ≤ length (now out)) × (length (now sent) ≤ 14) ⌝ }
-    ensures { λ r. ⌜ Put (now (out .entry)) at (numberedRow x (wordText (wordOf a)) (detailText (detailOf a (now (sent .entry)))) irq) (now (out .exit)) r ⌝ }
+    ensures { λ r. ⌜ Put (now (out .entry)) at (numberedRow x (wordText (wordOf a)) (detailText (detailOf a (now (sent .entry)))) irq looked) (now (out .exit)) r ⌝ }
 {
     let at = number(out, at, x);
     let at = answer(out, at, a, sent);
-    hex_field(out, at, irq, b'\n')
+    end(out, at, irq, looked)
 }
 
 // The row of a line that is no step.
 pub(crate) fn unread(out: &mut [u8], at: usize, x: Number, irq: u8) -> usize
     requires { ⌜ at + 64 ≤ length (now out) ⌝ }
-    ensures { λ r. ⌜ Put (now (out .entry)) at (numberedRow x unreadText (45 ∷ []) irq) (now (out .exit)) r ⌝ }
+    ensures { λ r. ⌜ Put (now (out .entry)) at (numberedRow x unreadText (45 ∷ []) irq 0) (now (out .exit)) r ⌝ }
 {
     let at = number(out, at, x);
     let at = put9(out, at, b"unread\t-\t");
-    hex_field(out, at, irq, b'\n')
+    end(out, at, irq, 0)
 }

@@ -68,11 +68,20 @@ STORED = 2
 abbrev pub QUEUED : ℕ
 QUEUED = 3
 
+abbrev pub HELDOFF : ℕ
+HELDOFF = 4
+
 abbrev pub SENT : ℕ
 SENT = 6
 
 abbrev pub REFUSED : ℕ
 REFUSED = 8
+
+abbrev pub OVERRUN : ℕ
+OVERRUN = 9
+
+abbrev pub UNMATCHED : ℕ
+UNMATCHED = 10
 
 abbrev pub IGNORED : ℕ
 IGNORED = 12
@@ -106,6 +115,14 @@ isPut a = eqb (wordOf a) STORED || eqb (wordOf a) QUEUED
 -- and that is buffer n
 abbrev pub isPutIn : ℕ → Answer → Bool
 isPutIn n a = isPut a && eqb (numberIn (givenOf a)) n
+
+-- the answers "stored" and "heldoff": a dedicated receive buffer carries the frame's identifier
+abbrev pub isFound : Answer → Bool
+isFound a = eqb (wordOf a) STORED || eqb (wordOf a) HELDOFF
+
+-- the answers of a frame that is looked up (W8): those, "queued", "overrun" and "unmatched"
+abbrev pub isLookedUp : Answer → Bool
+isLookedUp a = isFound a || eqb (wordOf a) QUEUED || eqb (wordOf a) OVERRUN || eqb (wordOf a) UNMATCHED
 
 -- the answers "refused" and "ignored"
 abbrev pub changesNothing : Answer → Bool

@@ -5,7 +5,7 @@ use mathlib.Core.List.{List, [], _∷_}
 use lib.Dec.{eqb, ltb, leb}
 use lib.Bits.{bitOr}
 use Rattle.masks.specs.Pick.{pick}
-use Rattle.masks.specs.Bits.{putBit, maskOf, lowest, highest}
+use Rattle.masks.specs.Bits.{putBit, maskOf, lowest, highest, countOf}
 use Rattle.filter.specs.Match.{matches, rejects}
 use Rattle.contents.specs.Bytes.{Head}
 use Rattle.rules.specs.declared.SyncKind.{SyncKind}
@@ -21,7 +21,7 @@ use Rattle.rules.specs.Registers.{SYNAIF, SYNNIF, SLMMIF, XSYNIF, OVRNIF
 use Rattle.rules.specs.Kinds.{isReceive, isArmed, isLocked, isFullTransmit, placeAfter}
 use Rattle.rules.specs.Flags.{cleared}
 use Rattle.rules.specs.Modes.{disarmAll, wake}
-use Rattle.rules.specs.Plan.{headAt, Move, store, Reply, say, send, Plan, plain}
+use Rattle.rules.specs.Plan.{headAt, Move, store, Reply, say, send, Plan, plain, withLooked}
 
 -- ---- event flags
 
@@ -103,6 +103,7 @@ toBuffer c n =
       control = withBuffers c (withIflg (c .buffers) (putBit (c .buffers .iflg) n true));
       moves = store n ∷ [];
       reply = say (Stored n);
+      looked = 0;
     })
 
 -- "the FIFO takes it if FSIZ > 0 and it is accepted and not rejected"
@@ -124,7 +125,12 @@ withEntry c =
 abbrev pub takenByFifo : Control → Plan
 takenByFifo c =
     pick (leb (c .config .fsiz) (c .fifo .count)) (plain (raiseGisr c OVRNIF) Overrun)
-    (record { control = withFifo c (withEntry c); moves = store (c .fifo .next) ∷ []; reply = say (Queued (c .fifo .next)) })
+    (record {
+      control = withFifo c (withEntry c);
+      moves = store (c .fifo .next) ∷ [];
+      reply = say (Queued (c .fifo .next));
+      looked = 0;
+    })
 
 -- a frame that no dedicated receive buffer carries; kept out by the filters or without a FIFO, "Otherwise 'unmatched'"
 unfoldable pub toFifo : Control → ℕ → Plan
@@ -134,9 +140,14 @@ toFifo c i = pick (fifoTakes c i) (takenByFifo c) (plain c Unmatched)
 unfoldable pub raiseLast : Control → ℕ → Control
 raiseLast c i = withMode c (withLast (c .mode) (max (c .mode .last) i))
 
--- a sound frame with identifier i, whose buffer is n, or none
+-- W8: "those from FSIZ to the frame's buffer, that one included, or all dedicated receive buffers if none carries the identifier". The
+-- frame's buffer is n, or none; a dedicated receive buffer is one from FSIZ on.
+unfoldable pub examined : Control → ℕ → ℕ
+examined c n = countOf (λ k. isReceive c k && leb k n) 16
+
+-- a sound frame with identifier i, whose buffer is n, or none: it "is looked up"
 unfoldable pub found : Control → ℕ → ℕ → Plan
-found c i n = pick (ltb n 16) (toBuffer (raiseLast c i) n) (toFifo (raiseLast c i) i)
+found c i n = withLooked (pick (ltb n 16) (toBuffer (raiseLast c i) n) (toFifo (raiseLast c i) i)) (examined c n)
 
 -- "unsynchronized, ignored. A bad verdict or identifier 0 sets ERRIF ('badframe')." The frame's buffer is n, or none.
 unfoldable pub judged : Control → Bool → ℕ → ℕ → Plan
@@ -159,7 +170,7 @@ sentFrom c n =
     withBuffers c (withArmed (withIflg (c .buffers) (putBit (c .buffers .iflg) n true)) (putBit (c .buffers .armed) n false))
 
 unfoldable pub sendFrom : Control → ℕ → ℕ → Plan
-sendFrom c i n = record { control = withMode (sentFrom c n) (withLast (c .mode) i); moves = []; reply = send n }
+sendFrom c i n = record { control = withMode (sentFrom c n) (withLast (c .mode) i); moves = []; reply = send n; looked = 0 }
 
 -- "unsynchronized, ignored. If i exceeds the last identifier and armed buffers carry i, the highest is sent [..]. Otherwise
 -- 'notsent'.", as W10 leaves it: an armed buffer is never locked. The highest such buffer is n, or none.

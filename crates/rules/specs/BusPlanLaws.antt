@@ -10,52 +10,58 @@ use Rattle.contents.specs.Bytes.{Head}
 use Rattle.rules.specs.declared.Answer.{Answer}
 use Rattle.rules.specs.declared.Control.{Control}
 use Rattle.rules.specs.Bus.{toBuffer, toFifo, found, judged, received, sendFrom, slotFor, slotted}
-use Rattle.rules.specs.Answers.{isPut, isPutIn}
+use Rattle.rules.specs.Answers.{isPut, isPutIn, isLookedUp}
 use Rattle.rules.specs.Steps.{slot, frame}
-use Rattle.rules.specs.Plan.{store, say, send, Plan, plain}
+use Rattle.rules.specs.Plan.{store, say, send, Plan, plain, withLooked}
 use Rattle.rules.specs.Rules.{onBus, act, decide}
 
 -- ---- frames
 
 pub data FramePlan : Plan → Type 0 where
-  drops : (c : Control) (a : Answer) → isPut a ≡ false → FramePlan (plain c a)
-  puts : (c : Control) (n : ℕ) (a : Answer) → isPutIn n a ≡ true → FramePlan (record { control = c; moves = store n ∷ []; reply = say a })
+  drops : (c : Control) (a : Answer) (k : ℕ) → isPut a ≡ false → FramePlan (withLooked (plain c a) k)
+  puts : (c : Control) (n : ℕ) (a : Answer) (k : ℕ) → isPutIn n a ≡ true →
+      FramePlan (record { control = c; moves = store n ∷ []; reply = say a; looked = k })
+
+counted-plan : {p : Plan} (k : ℕ) → FramePlan p → FramePlan (withLooked p k)
+counted-plan k (drops c a j e) = drops c a k e
+counted-plan k (puts c n a j e) = puts c n a k e
 
 buffer-plan : (c : Control) (n : ℕ) → FramePlan (toBuffer c n)
 unfolding toBuffer
-buffer-plan c n = pick-keeps FramePlan _ (λ t. drops _ _ refl) (λ t. puts _ n _ (eq-eqb n n refl))
+buffer-plan c n = pick-keeps FramePlan _ (λ t. drops _ _ 0 refl) (λ t. puts _ n _ 0 (eq-eqb n n refl))
 
 fifo-plan : (c : Control) (i : ℕ) → FramePlan (toFifo c i)
 unfolding toFifo
 fifo-plan c i =
     pick-keeps FramePlan _
-    (λ t. pick-keeps FramePlan _ (λ u. drops _ _ refl) (λ u. puts _ (c .fifo .next) _ (eq-eqb (c .fifo .next) (c .fifo .next) refl)))
-    (λ t. drops _ _ refl)
+    (λ t. pick-keeps FramePlan _ (λ u. drops _ _ 0 refl) (λ u. puts _ (c .fifo .next) _ 0 (eq-eqb (c .fifo .next) (c .fifo .next) refl)))
+    (λ t. drops _ _ 0 refl)
 
 judged-plan : (c : Control) (good : Bool) (i n : ℕ) → FramePlan (judged c good i n)
 unfolding judged found
 judged-plan c good i n =
-    pick-keeps FramePlan _ (λ t. drops _ _ refl)
-    (λ t. pick-keeps FramePlan _ (λ u. drops _ _ refl) (λ u. pick-keeps FramePlan _ (λ x. buffer-plan _ n) (λ x. fifo-plan _ i)))
+    pick-keeps FramePlan _ (λ t. drops _ _ 0 refl)
+    (λ t. pick-keeps FramePlan _ (λ u. drops _ _ 0 refl)
+    (λ u. counted-plan _ (pick-keeps FramePlan _ (λ x. buffer-plan _ n) (λ x. fifo-plan _ i))))
 
 pub frame-plan : (c : Control) (hs : List Head) (good : Bool) (f : List ℕ) → FramePlan (decide c hs (frame good f))
 unfolding decide act onBus received
 frame-plan c hs good f =
     pick-keeps FramePlan _
-    (λ t. pick-keeps FramePlan _ (λ u. drops _ _ refl) (λ u. pick-keeps FramePlan _ (λ x. drops _ _ refl) (λ x. judged-plan c good _ _)))
-    (λ t. drops _ _ refl)
+    (λ t. pick-keeps FramePlan _ (λ u. drops _ _ 0 refl) (λ u. pick-keeps FramePlan _ (λ x. drops _ _ 0 refl) (λ x. judged-plan c good _ _)))
+    (λ t. drops _ _ 0 refl)
 
 -- ---- slots
 
 pub data SlotPlan : Plan → Type 0 where
-  says : (c : Control) (a : Answer) → SlotPlan (plain c a)
-  sends : (c : Control) (n : ℕ) → SlotPlan (record { control = c; moves = []; reply = send n })
+  says : (c : Control) (a : Answer) → isLookedUp a ≡ false → SlotPlan (plain c a)
+  sends : (c : Control) (n : ℕ) → SlotPlan (record { control = c; moves = []; reply = send n; looked = 0 })
 
 pub slot-plan : (c : Control) (hs : List Head) (i : ℕ) (room : List ℕ) → SlotPlan (decide c hs (slot i room))
 unfolding decide act onBus slotted slotFor sendFrom
 slot-plan c hs i room =
     pick-keeps SlotPlan _
-    (λ t. pick-keeps SlotPlan _ (λ u. says _ _)
-    (λ u. pick-keeps SlotPlan _ (λ x. says _ _)
-    (λ x. pick-keeps SlotPlan _ (λ y. says _ _) (λ y. pick-keeps SlotPlan _ (λ z. sends _ _) (λ z. says _ _)))))
-    (λ t. says _ _)
+    (λ t. pick-keeps SlotPlan _ (λ u. says _ _ refl)
+    (λ u. pick-keeps SlotPlan _ (λ x. says _ _ refl)
+    (λ x. pick-keeps SlotPlan _ (λ y. says _ _ refl) (λ y. pick-keeps SlotPlan _ (λ z. sends _ _) (λ z. says _ _ refl)))))
+    (λ t. says _ _ refl)

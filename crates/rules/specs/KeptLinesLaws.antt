@@ -17,21 +17,15 @@ use Rattle.rules.specs.Kinds.{isLocked, lockif}
 use Rattle.rules.specs.Flags.{receivePending, transmitPending, rxif, txif, risr, gisr, linesOf}
 use Rattle.rules.specs.Bus.{dueSync, lookup, toBuffer, fifoTakes, toFifo, raiseLast, found, judged, received, offers, sendFrom, slotFor, slotted}
 use Rattle.rules.specs.Refusals.{refusal}
-use Rattle.rules.specs.Answers.{wordOf, changesNothing}
+use Rattle.rules.specs.Answers.{wordOf, HELDOFF, UNMATCHED, changesNothing}
 use Rattle.rules.specs.Steps.{Step, reset, read, write, sync, syncDue, slot, frame, fault, timeout}
-use Rattle.rules.specs.Plan.{Reply, say, show, send, Plan, plain}
+use Rattle.rules.specs.Plan.{Reply, say, show, send, Plan, plain, withLooked}
 use Rattle.rules.specs.Rules.{onBus, act, decide}
 
 -- ---- those answers
 
 abbrev VALUE : ℕ
 VALUE = 1
-
-abbrev HELDOFF : ℕ
-HELDOFF = 4
-
-abbrev UNMATCHED : ℕ
-UNMATCHED = 10
 
 abbrev NOTSENT : ℕ
 NOTSENT = 14
@@ -78,6 +72,10 @@ module _ (c : Control) where
   same : (p : Plan) → linesOf (p .control) ≡ linesOf c → Kept c p
   same p e = record { kept = λ t. e }
 
+  -- a count is in no flag
+  counted-kept : (p : Plan) (k : ℕ) → Kept c p → Kept c (withLooked p k)
+  counted-kept p k s = record { kept = s .kept }
+
   bus-kept : (x y : Plan) → Kept c x → Kept c y → Kept c (onBus c x y)
   unfolding onBus
   bus-kept x y p q = pick-keeps (Kept c) (c .mode .init) (λ t. same _ refl) (λ t. pick-keeps (Kept c) (c .mode .slpak) (λ u. p) (λ u. q))
@@ -110,7 +108,7 @@ module _ (c : Control) where
       let e = raise-kept c i in
       pick-keeps (Kept c) (not (c .mode .synced)) (λ t. same _ refl)
       (λ t. pick-keeps (Kept c) (not good || eqb i 0) (λ u. other _ refl)
-      (λ u. pick-keeps (Kept c) (ltb n 16) (λ x. buffer-kept (raiseLast c i) n e) (λ x. fifo-kept (raiseLast c i) i e)))
+      (λ u. counted-kept _ _ (pick-keeps (Kept c) (ltb n 16) (λ x. buffer-kept (raiseLast c i) n e) (λ x. fifo-kept (raiseLast c i) i e))))
 
   act-kept : (hs : List Head) (e : Step) → Kept c (act c hs e)
   unfolding act keepsLines

@@ -23,4 +23,5 @@ pub mod UnchangedLaws
 pub mod UntouchedLaws
 pub mod SendingLaws
 pub mod KeptLinesLaws
+pub mod LookedLaws
 pub mod BusPlanLaws

@@ -35,10 +35,16 @@ pub record Plan : Type 0 where
   pub control : Control
   pub moves : List Move
   pub reply : Reply
+  -- W8: how many dedicated receive buffers were examined
+  pub looked : ℕ
 
 -- only the control state changes
 abbrev pub plain : Control → Answer → Plan
-plain c a = record { control = c; moves = []; reply = say a }
+plain c a = record { control = c; moves = []; reply = say a; looked = 0 }
+
+-- the plan of a step that examined k buffers
+abbrev pub withLooked : Plan → ℕ → Plan
+withLooked p k = record { control = p .control; moves = p .moves; reply = p .reply; looked = k }
 
 -- The rules, whatever they are. They are given the step with its payload put to 0 (`stepBy` of a session).
 abbrev pub Rules : Type 0

@@ -30,9 +30,9 @@ sleepsOn c awake = onBus c (plain c Ignored) awake
 
 -- a step that is not refused
 unfoldable pub act : Control → List Head → Step → Plan
-act c hs reset = record { control = resetControl; moves = wipe ∷ []; reply = say Ok }
-act c hs (read a) = record { control = c; moves = []; reply = readReply c hs (registerAt a) }
-act c hs (write a v) = record { control = written c (registerAt a) v; moves = writeMoves c (registerAt a) v; reply = say Ok }
+act c hs reset = record { control = resetControl; moves = wipe ∷ []; reply = say Ok; looked = 0 }
+act c hs (read a) = record { control = c; moves = []; reply = readReply c hs (registerAt a); looked = 0 }
+act c hs (write a v) = record { control = written c (registerAt a) v; moves = writeMoves c (registerAt a) v; reply = say Ok; looked = 0 }
 act c hs (sync k) = wakes c (plain (synced k c hs) Ok)
 act c hs syncDue = sleepsOn c (dueSync c hs)
 act c hs (slot i room) = sleepsOn c (slotted c hs i)

@@ -83,7 +83,7 @@ unfolding received judged found
 frame-honest c hs good i =
     pick-keeps Honest (not (c .mode .synced)) (λ t. ok _ refl)
     (λ t. pick-keeps Honest (not good || eqb i 0) (λ u. ok _ refl)
-    (λ u. pick-keeps Honest (ltb (lookup c hs i) 16) (λ x. buffer-honest (raiseLast c i) (lookup c hs i)) (λ x. fifo-honest (raiseLast c i) i)))
+    (λ u. ok _ (pick-keeps Honest (ltb (lookup c hs i) 16) (λ x. buffer-honest (raiseLast c i) (lookup c hs i)) (λ x. fifo-honest (raiseLast c i) i) .honest)))
 
 act-honest : (c : Control) (hs : List Head) (e : Step) → Honest (act c hs e)
 unfolding act

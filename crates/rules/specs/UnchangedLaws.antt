@@ -16,7 +16,7 @@ use Rattle.rules.specs.Bus.{dueSync, lookup, toBuffer, fifoTakes, toFifo
 use Rattle.rules.specs.Refusals.{refusal}
 use Rattle.rules.specs.Answers.{changesNothing}
 use Rattle.rules.specs.Steps.{Step, reset, read, write, sync, syncDue, slot, frame, fault, timeout}
-use Rattle.rules.specs.Plan.{Reply, say, show, send, Plan, plain}
+use Rattle.rules.specs.Plan.{Reply, say, show, send, Plan, plain, withLooked}
 use Rattle.rules.specs.Rules.{onBus, act, decide}
 
 abbrev pub stillReply : Reply → Bool
@@ -38,6 +38,10 @@ other p e = record { same-control = λ t. impossible (sym e ∙ t); no-moves = �
 
 same : (c : Control) (a : Answer) → Still c (plain c a)
 same c a = record { same-control = λ t. refl; no-moves = λ t. refl }
+
+-- a count changes nothing
+counted-still : {c : Control} (p : Plan) (k : ℕ) → Still c p → Still c (withLooked p k)
+counted-still p k s = record { same-control = s .same-control; no-moves = s .no-moves }
 
 module _ (c : Control) where
   bus-still : (x y : Plan) → Still c x → Still c y → Still c (onBus c x y)
@@ -64,7 +68,8 @@ module _ (c : Control) where
   frame-still hs good i =
       pick-keeps (Still c) (not (c .mode .synced)) (λ t. same c Ignored)
       (λ t. pick-keeps (Still c) (not good || eqb i 0) (λ u. other _ refl)
-      (λ u. pick-keeps (Still c) (ltb (lookup c hs i) 16) (λ x. buffer-still (raiseLast c i) (lookup c hs i)) (λ x. fifo-still (raiseLast c i) i)))
+      (λ u. counted-still _ _
+      (pick-keeps (Still c) (ltb (lookup c hs i) 16) (λ x. buffer-still (raiseLast c i) (lookup c hs i)) (λ x. fifo-still (raiseLast c i) i))))
 
   slot-still : (hs : List Head) (i : ℕ) → Still c (slotted c hs i)
   unfolding slotted slotFor sendFrom

@@ -25,7 +25,7 @@ use Rattle.rules.specs.Modes.{wake}
 use Rattle.rules.specs.Bus.{woken, arms, synced, dueKind, dueSync, timedOut, faulted, lookup, toBuffer, fifoTakes, toFifo, raiseLast, found, judged, received, offers, sendFrom, slotFor, slotted}
 use Rattle.rules.specs.Refusals.{refusal}
 use Rattle.rules.specs.Steps.{Step, reset, read, write, sync, syncDue, slot, frame, fault, timeout}
-use Rattle.rules.specs.Plan.{Move, store, headAt, Plan, plain}
+use Rattle.rules.specs.Plan.{Move, store, headAt, Plan, plain, withLooked}
 use Rattle.rules.specs.Rules.{onBus, act, decide}
 use Rattle.rules.specs.Untouched.{isBusEvent, TargetsFree, rolesOf}
 
@@ -39,6 +39,9 @@ pub record Spares (c : Control) (n : ℕ) (p : Plan) : Type 0 where
   pub same-arming : isArmed (p .control) n ≡ isArmed c n
   pub same-roles : rolesOf (p .control) ≡ rolesOf c
   pub avoided : Avoids n (p .moves)
+
+counted-spares : {c : Control} {n : ℕ} (p : Plan) (k : ℕ) → Spares c n p → Spares c n (withLooked p k)
+counted-spares p k s = record { same-bufctl = s .same-bufctl; same-arming = s .same-arming; same-roles = s .same-roles; avoided = s .avoided }
 
 -- IFLG of another buffer
 flag-other : (abtak locked iena cfg : Bool) (m n k : ℕ) → n < 16 → eqb n k ≡ false →
@@ -126,7 +129,7 @@ module _ (c : Control) (n : ℕ) (small : n < 16) (locked : isLocked c n ≡ tru
   frame-spares hs good i o =
       pick-keeps (Spares c n) (not (c .mode .synced)) (λ t. same Ignored)
       (λ t. pick-keeps (Spares c n) (not good || eqb i 0) (λ u. record { same-bufctl = refl; same-arming = refl; same-roles = refl; avoided = none })
-      (λ u. pick-keeps (Spares c n) (ltb (lookup c hs i) 16) (λ x. buffer-spares i (lookup c hs i)) (λ x. fifo-spares i o)))
+      (λ u. counted-spares _ _ (pick-keeps (Spares c n) (ltb (lookup c hs i) 16) (λ x. buffer-spares i (lookup c hs i)) (λ x. fifo-spares i o))))
 
   -- what is sent is armed, so not locked, and another buffer
   sent-other : (hs : List Head) (i : ℕ) → highest (offers c hs i) 16 < 16 → eqb n (highest (offers c hs i) 16) ≡ false

@@ -44,7 +44,7 @@ use denote.Triple.Table.{entered, cited}
 use denote.Triple.Walked.{says, Stays, gave-ref, gave-slice, stay-none-slice, stay-none, walkOf, AllGo, goes-none, goes-gave-ref, goes-gave-slice, goes-none-slice, Walks, ends-at, walked, walk-meets}
 use denote.Exit.{yes}
 use Rattle.controller.specs.Session.{stepOf}
-use Rattle.controller.specs.Calls.{doneOf, stepFor, roomFor}
+use Rattle.controller.specs.Calls.{answeredOf, stepFor, roomFor}
 use Rattle.encoding.specs.Answers.{numberOf}
 use Rattle.encoding.specs.Code.{judgedOf, meantOf}
 use Rattle.hevrukan.specs.Interface.{stepEffect}
@@ -55,9 +55,9 @@ use Rattle.controller.proofs.Controller.Laws as T′
 use Rattle.controller.specs.declared.Call.{Call}
 use Rattle.controller.proofs.Call as Call-row
 use Rattle.controller.proofs.Call.Laws as Call-row′
-use Rattle.rules.specs.declared.Answer.{Answer}
-use Rattle.rules.proofs.Answer as Answer-row
-use Rattle.rules.proofs.Answer.Laws as Answer-row′
+use Rattle.controller.specs.declared.Answered.{Answered}
+use Rattle.controller.proofs.Answered as Answered-row
+use Rattle.controller.proofs.Answered.Laws as Answered-row′
 use Rattle.encoding.proofs.calls.judged as judged
 use Rattle.encoding.proofs.calls.judged.Symbol as judged-def
 use Rattle.encoding.proofs.calls.judged.Symbol.{name as #judged}
@@ -109,8 +109,8 @@ rec-ty = pointee (T.the-row .written)
 call-is : (x : Call) (vs : List Val) → Is Call-row.the-row x vs → Is Call-row.the-row x (EL.val Call-row.the-type Call-row′.the-laws x ∷ [])
 call-is x vs g = subst (Is Call-row.the-row x) (EL.tells Call-row.the-type Call-row′.the-laws x vs g) g
 
-answer-is : (x : Answer) (vs : List Val) → Is Answer-row.the-row x vs → Is Answer-row.the-row x (EL.val Answer-row.the-type Answer-row′.the-laws x ∷ [])
-answer-is x vs g = subst (Is Answer-row.the-row x) (EL.tells Answer-row.the-type Answer-row′.the-laws x vs g) g
+answer-is : (x : Answered) (vs : List Val) → Is Answered-row.the-row x vs → Is Answered-row.the-row x (LL.val Answered-row.the-type Answered-row′.the-laws x ∷ [])
+answer-is x vs g = subst (Is Answered-row.the-row x) (LL.tells Answered-row.the-type Answered-row′.the-laws x vs g) g
 
 -- the code from where each lemma begins, written out: the function's own pieces are computed anew at each step of a walk
 abbrev code-6 : Bodyᴹ
@@ -177,8 +177,8 @@ module _ {M : Type 1} (𝓤 : URA M) (H : Heap 𝓤) (A : Atoms 𝓤) (W : Given
       nothing ! $ move ! (2 ∷ 0 ∷ []) $ fjoin ! $ move ! (2 ∷ 0 ∷ []) $ fjoin ! $ owned ! u32 (Is u32) (uint-makes 𝓤 H A W w32) two _ (refl, two-fits) $ fjoin ! $ owned ! u32 (Is u32) (uint-makes 𝓤 H A W w32) one _ (refl, one-fits) $ fjoin ! $ owned ! u32 (Is u32) (uint-makes 𝓤 H A W w32) kind _ (refl, kind-fits) $ fjoin ! $ owned ! usize (Is usize) (uint-makes 𝓤 H A W w64) size _ (refl, size-fits) $ fjoin ! $ move ! (1 ∷ 0 ∷ []) $ fjoin ! $ frame ! $ owned ! u32 (Is u32) (uint-makes 𝓤 H A W w32) m _ (refl, g) $ done !
 
   -- a call's step
-  abbrev Said : Call → Controller → Answer → List ℕ → Type 0
-  Said call c x zs = (c ≡ doneOf (stepOf h (stepFor call bytes room)) .next) × (x ≡ doneOf (stepOf h (stepFor call bytes room)) .answer) × (zs ≡ roomFor h call room)
+  abbrev Said : Call → Controller → Answered → List ℕ → Type 0
+  Said call c x zs = (c ≡ stepOf h (stepFor call bytes room) .next) × (x ≡ answeredOf (stepOf h (stepFor call bytes room))) × (zs ≡ roomFor h call room)
 
   -- a call that is to be made
   abbrev Called : Call → Type 0
@@ -206,27 +206,27 @@ module _ {M : Type 1} (𝓤 : URA M) (H : Heap 𝓤) (A : Atoms 𝓤) (W : Given
   asked-step : (call : Call) → Is Call-row.the-row call (EL.val Call-row.the-type Call-row′.the-laws call ∷ []) → ent 𝓤 (⋆ 𝓤 H A (‵ (flft κ q) ∷ ‵ (flft κ-bytes q-bytes) ∷ ‵ (flft κ-room q-room) ∷ ‵ Own-c ∷ ‵ Own-bytes ∷ ‵ Own-room ∷ [])) (Step 𝓤 H A at-mem run .pre (to-step call))
   asked-step call c-is = qed W (‵ (flft κ q) ∷ ‵ (flft κ-bytes q-bytes) ∷ ‵ (flft κ-room q-room) ∷ ‵ Own-c ∷ ‵ Own-bytes ∷ ‵ Own-room ∷ []) ∵ nothing ! $ move ! (3 ∷ 0 ∷ []) $ join ! $ move ! (2 ∷ 0 ∷ []) $ join ! $ move ! (1 ∷ 0 ∷ []) $ join ! $ nothing ! $ move ! (4 ∷ 0 ∷ []) $ fjoin ! $ move ! (3 ∷ 0 ∷ []) $ fjoin ! $ owned ! Call-row.the-row (Is Call-row.the-row) (EL.makes Call-row.the-type Call-row′.the-plain 𝓤 H A) call _ c-is $ fjoin ! $ move ! (2 ∷ 0 ∷ []) $ fjoin ! $ move ! (1 ∷ 0 ∷ []) $ join ! $ nothing ! $ move ! (1 ∷ 0 ∷ []) $ join ! $ done !
 
-  abbrev to-number : Answer → Number 𝓤 H A at-mem run .Ghost
-  to-number x = ((tt, tt, tt, (x, tt), (EL.val Answer-row.the-type Answer-row′.the-laws x ∷ [], tt)), tt)
+  abbrev to-number : Answered → Number 𝓤 H A at-mem run .Ghost
+  to-number x = ((tt, tt, tt, (x, tt), (LL.val Answered-row.the-type Answered-row′.the-laws x ∷ [], tt)), tt)
 
-  asked-number : (x : Answer) → Is Answer-row.the-row x (EL.val Answer-row.the-type Answer-row′.the-laws x ∷ []) → ent 𝓤 (emp 𝓤) (Number 𝓤 H A at-mem run .pre (to-number x))
-  asked-number x x-is = qed W [] ∵ nothing ! $ nothing ! $ owned ! Answer-row.the-row (Is Answer-row.the-row) (EL.makes Answer-row.the-type Answer-row′.the-plain 𝓤 H A) x _ x-is $ fjoin ! $ move ! (1 ∷ 0 ∷ []) $ join ! $ nothing ! $ move ! (1 ∷ 0 ∷ []) $ join ! $ done !
+  asked-number : (x : Answered) → Is Answered-row.the-row x (LL.val Answered-row.the-type Answered-row′.the-laws x ∷ []) → ent 𝓤 (emp 𝓤) (Number 𝓤 H A at-mem run .pre (to-number x))
+  asked-number x x-is = qed W [] ∵ nothing ! $ nothing ! $ owned ! Answered-row.the-row (Is Answered-row.the-row) (LL.makes Answered-row.the-type Answered-row′.the-plain 𝓤 H A) x _ x-is $ fjoin ! $ move ! (1 ∷ 0 ∷ []) $ join ! $ nothing ! $ move ! (1 ∷ 0 ∷ []) $ join ! $ done !
 
   module _ (C : Calls 𝓤 H) (Λ : Loops 𝓤 H) (fm : FmC 𝓤 H (W .laws) C) (known-judged : Triple 𝓤 (C #judged) (Judged 𝓤 H A at-mem run)) (known-meant : Triple 𝓤 (C #meant) (Meant 𝓤 H A at-mem run)) (known-step : Triple 𝓤 (C #step) (Step 𝓤 H A at-mem run)) (known-number : Triple 𝓤 (C #number) (Number 𝓤 H A at-mem run)) where
     module _ (l0 l1 l2 l3 l4 l5 l6 l7 l8 l9 l10 l11 l12 l13 l14 : ℕ) where
       -- the locals, and what frees them
       abbrev En : Env 𝓤 H
-      En = (tyInt w32, l0) ∷ (tyRef (named 0) mut rec-ty, l1) ∷ (tyInt w64, l2) ∷ (tyInt w32, l3) ∷ (tyInt w32, l4) ∷ (tyInt w32, l5) ∷ (sliceTy (tyRef (named 1) imm byte), l6) ∷ (sliceTy (tyRef (named 2) mut byte), l7) ∷ (tyInt w32, l8) ∷ (Call-row′.mir, l9) ∷ (Answer-row′.mir, l10) ∷ (tyBool, l11) ∷ (tyRef erased mut rec-ty, l12) ∷ (tyRef erased mut byte, l13) ∷ (sliceTy (tyRef erased mut byte), l14) ∷ []
+      En = (tyInt w32, l0) ∷ (tyRef (named 0) mut rec-ty, l1) ∷ (tyInt w64, l2) ∷ (tyInt w32, l3) ∷ (tyInt w32, l4) ∷ (tyInt w32, l5) ∷ (sliceTy (tyRef (named 1) imm byte), l6) ∷ (sliceTy (tyRef (named 2) mut byte), l7) ∷ (tyInt w32, l8) ∷ (Call-row′.mir, l9) ∷ (Answered-row′.mir, l10) ∷ (tyBool, l11) ∷ (tyRef erased mut rec-ty, l12) ∷ (tyRef erased mut byte, l13) ∷ (sliceTy (tyRef erased mut byte), l14) ∷ []
 
       abbrev Dies : List (Item 𝓤)
-      Dies = ‵ (fdies (tyInt w32) l0) ∷ ‵ (fdies (tyRef (named 0) mut rec-ty) l1) ∷ ‵ (fdies (tyInt w64) l2) ∷ ‵ (fdies (tyInt w32) l3) ∷ ‵ (fdies (tyInt w32) l4) ∷ ‵ (fdies (tyInt w32) l5) ∷ ‵ (fdies (sliceTy (tyRef (named 1) imm byte)) l6) ∷ ‵ (fdies (sliceTy (tyRef (named 2) mut byte)) l7) ∷ ‵ (fdies (tyInt w32) l8) ∷ ‵ (fdies Call-row′.mir l9) ∷ ‵ (fdies Answer-row′.mir l10) ∷ ‵ (fdies tyBool l11) ∷ ‵ (fdies (tyRef erased mut rec-ty) l12) ∷ ‵ (fdies (tyRef erased mut byte) l13) ∷ ‵ (fdies (sliceTy (tyRef erased mut byte)) l14) ∷ []
+      Dies = ‵ (fdies (tyInt w32) l0) ∷ ‵ (fdies (tyRef (named 0) mut rec-ty) l1) ∷ ‵ (fdies (tyInt w64) l2) ∷ ‵ (fdies (tyInt w32) l3) ∷ ‵ (fdies (tyInt w32) l4) ∷ ‵ (fdies (tyInt w32) l5) ∷ ‵ (fdies (sliceTy (tyRef (named 1) imm byte)) l6) ∷ ‵ (fdies (sliceTy (tyRef (named 2) mut byte)) l7) ∷ ‵ (fdies (tyInt w32) l8) ∷ ‵ (fdies Call-row′.mir l9) ∷ ‵ (fdies Answered-row′.mir l10) ∷ ‵ (fdies tyBool l11) ∷ ‵ (fdies (tyRef erased mut rec-ty) l12) ∷ ‵ (fdies (tyRef erased mut byte) l13) ∷ ‵ (fdies (sliceTy (tyRef erased mut byte)) l14) ∷ []
 
       -- what is left once an arm has ended
       abbrev Next : Out → SProp 𝓤
       Next = afterSeq 𝓤 H (Wp 𝓤 H C Λ En code-6 (atReturn 𝓤 H En Post)) (atReturn 𝓤 H En Post)
 
       -- the answer's number, and the `return`
-      numbering : {y1 y2 y3 y4 y5 y6 y7 y8 y9 y11 y12 y13 y14 : Val} → (call : Call) → Is Call-row.the-row call (EL.val Call-row.the-type Call-row′.the-laws call ∷ []) → Called call → (c : Controller) (x : Answer) (zs : List ℕ) → Said call c x zs → length zs ≡ length room → Is Answer-row.the-row x (EL.val Answer-row.the-type Answer-row′.the-laws x ∷ []) → Sq W (‵ (fres γ (T.the-row .coded .code c)) ∷ ‵ (flft κ q) ∷ ‵ (flft κ-bytes q-bytes) ∷ ‵ (flft κ-room q-room) ∷ ‵ (finally u8 γ-room zs) ∷ ‵ Own-bytes ∷ ‵ (froom (tyInt w32) l0 0) ∷ ‵ (fat fullShare (tyRef (named 0) mut rec-ty) l1 0 y1) ∷ ‵ (fat fullShare (tyInt w64) l2 0 y2) ∷ ‵ (fat fullShare (tyInt w32) l3 0 y3) ∷ ‵ (fat fullShare (tyInt w32) l4 0 y4) ∷ ‵ (fat fullShare (tyInt w32) l5 0 y5) ∷ ‵ (fat fullShare (sliceTy (tyRef (named 1) imm byte)) l6 0 y6) ∷ ‵ (fat fullShare (sliceTy (tyRef (named 2) mut byte)) l7 0 y7) ∷ ‵ (fat fullShare (tyInt w32) l8 0 y8) ∷ ‵ (fat fullShare Call-row′.mir l9 0 y9) ∷ ‵ (fat fullShare Answer-row′.mir l10 0 (EL.val Answer-row.the-type Answer-row′.the-laws x)) ∷ ‵ (fat fullShare tyBool l11 0 y11) ∷ ‵ (fat fullShare (tyRef erased mut rec-ty) l12 0 y12) ∷ ‵ (fat fullShare (tyRef erased mut byte) l13 0 y13) ∷ ‵ (fat fullShare (sliceTy (tyRef erased mut byte)) l14 0 y14) ∷ Dies) (runs C Λ En code-6 (atRet En Post))
+      numbering : {y1 y2 y3 y4 y5 y6 y7 y8 y9 y11 y12 y13 y14 : Val} → (call : Call) → Is Call-row.the-row call (EL.val Call-row.the-type Call-row′.the-laws call ∷ []) → Called call → (c : Controller) (x : Answered) (zs : List ℕ) → Said call c x zs → length zs ≡ length room → Is Answered-row.the-row x (LL.val Answered-row.the-type Answered-row′.the-laws x ∷ []) → Sq W (‵ (fres γ (T.the-row .coded .code c)) ∷ ‵ (flft κ q) ∷ ‵ (flft κ-bytes q-bytes) ∷ ‵ (flft κ-room q-room) ∷ ‵ (finally u8 γ-room zs) ∷ ‵ Own-bytes ∷ ‵ (froom (tyInt w32) l0 0) ∷ ‵ (fat fullShare (tyRef (named 0) mut rec-ty) l1 0 y1) ∷ ‵ (fat fullShare (tyInt w64) l2 0 y2) ∷ ‵ (fat fullShare (tyInt w32) l3 0 y3) ∷ ‵ (fat fullShare (tyInt w32) l4 0 y4) ∷ ‵ (fat fullShare (tyInt w32) l5 0 y5) ∷ ‵ (fat fullShare (sliceTy (tyRef (named 1) imm byte)) l6 0 y6) ∷ ‵ (fat fullShare (sliceTy (tyRef (named 2) mut byte)) l7 0 y7) ∷ ‵ (fat fullShare (tyInt w32) l8 0 y8) ∷ ‵ (fat fullShare Call-row′.mir l9 0 y9) ∷ ‵ (fat fullShare Answered-row′.mir l10 0 (LL.val Answered-row.the-type Answered-row′.the-laws x)) ∷ ‵ (fat fullShare tyBool l11 0 y11) ∷ ‵ (fat fullShare (tyRef erased mut rec-ty) l12 0 y12) ∷ ‵ (fat fullShare (tyRef erased mut byte) l13 0 y13) ∷ ‵ (fat fullShare (sliceTy (tyRef erased mut byte)) l14 0 y14) ∷ Dies) (runs C Λ En code-6 (atRet En Post))
       numbering call c-is p c x zs said l x-is =
           use0 W (raw (Number 𝓤 H A at-mem run .pre (to-number x))) (asked-number x x-is) $
           calls-at ! fm (Number 𝓤 H A at-mem run) known-number (to-number x) (and-then ! (load ! (from ! (stop !)) (look ! 17 refl)) (no-more !)) (λ v.
@@ -239,7 +239,7 @@ module _ {M : Type 1} (𝓤 : URA M) (H : Heap 𝓤) (A : Atoms 𝓤) (W : Given
           by ! (exits c m zs (made h size kind one two bytes room call p said e) (is .1) l))))))
 
       -- the step
-      stepping : {y8 y11 : Val} → (call : Call) → Is Call-row.the-row call (EL.val Call-row.the-type Call-row′.the-laws call ∷ []) → Called call → Sq W (‵ Own-c ∷ ‵ (flft κ q) ∷ ‵ Own-bytes ∷ ‵ (flft κ-bytes q-bytes) ∷ ‵ Own-room ∷ ‵ (flft κ-room q-room) ∷ ‵ (froom (tyInt w32) l0 0) ∷ ‵ (fat fullShare (tyRef (named 0) mut rec-ty) l1 0 (vptr b o)) ∷ ‵ (fat fullShare (tyInt w64) l2 0 (vint w64 size)) ∷ ‵ (fat fullShare (tyInt w32) l3 0 (vint w32 kind)) ∷ ‵ (fat fullShare (tyInt w32) l4 0 (vint w32 one)) ∷ ‵ (fat fullShare (tyInt w32) l5 0 (vint w32 two)) ∷ ‵ (fat fullShare (sliceTy (tyRef (named 1) imm byte)) l6 0 s-bytes) ∷ ‵ (fat fullShare (sliceTy (tyRef (named 2) mut byte)) l7 0 s-room) ∷ ‵ (fat fullShare (tyInt w32) l8 0 y8) ∷ ‵ (fat fullShare Call-row′.mir l9 0 (EL.val Call-row.the-type Call-row′.the-laws call)) ∷ ‵ (froom Answer-row′.mir l10 0) ∷ ‵ (fat fullShare tyBool l11 0 y11) ∷ ‵ (froom (tyRef erased mut rec-ty) l12 0) ∷ ‵ (froom (tyRef erased mut byte) l13 0) ∷ ‵ (froom (sliceTy (tyRef erased mut byte)) l14 0) ∷ Dies) (runs C Λ En code-5 (atRet En Post))
+      stepping : {y8 y11 : Val} → (call : Call) → Is Call-row.the-row call (EL.val Call-row.the-type Call-row′.the-laws call ∷ []) → Called call → Sq W (‵ Own-c ∷ ‵ (flft κ q) ∷ ‵ Own-bytes ∷ ‵ (flft κ-bytes q-bytes) ∷ ‵ Own-room ∷ ‵ (flft κ-room q-room) ∷ ‵ (froom (tyInt w32) l0 0) ∷ ‵ (fat fullShare (tyRef (named 0) mut rec-ty) l1 0 (vptr b o)) ∷ ‵ (fat fullShare (tyInt w64) l2 0 (vint w64 size)) ∷ ‵ (fat fullShare (tyInt w32) l3 0 (vint w32 kind)) ∷ ‵ (fat fullShare (tyInt w32) l4 0 (vint w32 one)) ∷ ‵ (fat fullShare (tyInt w32) l5 0 (vint w32 two)) ∷ ‵ (fat fullShare (sliceTy (tyRef (named 1) imm byte)) l6 0 s-bytes) ∷ ‵ (fat fullShare (sliceTy (tyRef (named 2) mut byte)) l7 0 s-room) ∷ ‵ (fat fullShare (tyInt w32) l8 0 y8) ∷ ‵ (fat fullShare Call-row′.mir l9 0 (EL.val Call-row.the-type Call-row′.the-laws call)) ∷ ‵ (froom Answered-row′.mir l10 0) ∷ ‵ (fat fullShare tyBool l11 0 y11) ∷ ‵ (froom (tyRef erased mut rec-ty) l12 0) ∷ ‵ (froom (tyRef erased mut byte) l13 0) ∷ ‵ (froom (sliceTy (tyRef erased mut byte)) l14 0) ∷ Dies) (runs C Λ En code-5 (atRet En Post))
       stepping call c-is p =
           assigns ! (addr ! (from ! (hop ! (look ! 7 refl) (stop !)))) (from ! (stop !)) (init ! 18 refl (tt, tt)) $
           assigns ! (addr ! (from ! (fld ! refl (hop ! (look-in ! 13 (sub ! 0 refl (whole !))) (stop !))))) (from ! (stop !)) (init ! 19 refl (tt, tt)) $
@@ -247,15 +247,15 @@ module _ {M : Type 1} (𝓤 : URA M) (H : Heap 𝓤) (A : Atoms 𝓤) (W : Given
           move ! (2 ∷ []) $ use1 W (‵ Own-bytes ⊛ ‵ Own-bytes) (shr-slice-copy 𝓤 H A W (named 1) κ-bytes u8 .twice bytes-ref (s-bytes ∷ [])) $ split ! $
           move ! (3 ∷ 4 ∷ 6 ∷ 2 ∷ 1 ∷ 5 ∷ []) $ group ! 6 $ use1 W (raw (Step 𝓤 H A at-mem run .pre (to-step call))) (asked-step call c-is) $
           calls-at ! fm (Step 𝓤 H A at-mem run) known-step (to-step call) (and-then ! (load ! (from ! (stop !)) (look ! 14 refl)) (and-then ! (load ! (from ! (stop !)) (look ! 11 refl)) (and-then ! (load ! (from ! (stop !)) (look ! 8 refl)) (and-then ! (load ! (from ! (stop !)) (look ! 16 refl)) (no-more !))))) (λ v.
-          use1 W (later (some (λ (x : Answer). ((‵ (flft κ q) ⊛ ‵ (flft κ-bytes q-bytes) ⊛ ‵ (flft κ-room q-room) ⊛ ‵ ftrue) ⊛ ‵ (Answer-row.the-row .own x (v ∷ []))) ⊛ raw (ensured 𝓤 H A step.ended (step.clauses 𝓤 H A at-mem run) (κ, (κ-bytes, (κ-room, tt))) (args-step call) tt x)))) (id⊢ 𝓤 _) $ await ! tt $ pick ! (λ x.
-          split ! $ move ! (1 ∷ []) $ use1 W (some (λ (ws : Lasts step.ended (κ, (κ-bytes, (κ-room, tt))) (args-step call)). ‵ (lasts step.ended (κ, (κ-bytes, (κ-room, tt))) (args-step call) ws) ⊛ raw (fact 𝓤 ((ws .0 ≡ doneOf (stepOf h (stepFor call bytes room)) .next) × (x ≡ doneOf (stepOf h (stepFor call bytes room)) .answer) × (ws .1 .1 .1 .0 ≡ roomFor h call room))))) (id⊢ 𝓤 _) $ pick ! (λ ws.
-          split ! $ move ! (1 ∷ []) $ heard ! ((ws .0 ≡ doneOf (stepOf h (stepFor call bytes room)) .next) × (x ≡ doneOf (stepOf h (stepFor call bytes room)) .answer) × (ws .1 .1 .1 .0 ≡ roomFor h call room)) (λ e. fsplit ! $ move ! (1 ∷ []) $ fsplit ! $ drop ! $ fsplit ! $ drop ! $ fsplit ! $ fsplit ! $ move ! (1 ∷ []) $ feqL ! (λ l.
-          move ! (3 ∷ []) $ split ! $ move ! (1 ∷ []) $ peeks ! Answer-row.the-row (Is Answer-row.the-row) (shows 𝓤 H A Answer-row.the-row) x (v ∷ []) (λ is. drop ! $ split ! $ move ! (1 ∷ []) $ split ! $ move ! (1 ∷ []) $ split ! $
-          land ! (from ! (stop !)) (init ! 18 refl (EL.lawful Answer-row.the-type Answer-row′.the-laws 𝓤 H A W tt .typed x _ is .0)) $ rewrite ! 18 (λ (u : Val). ‵ (fat fullShare Answer-row′.mir l10 0 u)) (ap only (EL.tells Answer-row.the-type Answer-row′.the-laws x _ is)) refl $
+          use1 W (later (some (λ (x : Answered). ((‵ (flft κ q) ⊛ ‵ (flft κ-bytes q-bytes) ⊛ ‵ (flft κ-room q-room) ⊛ ‵ ftrue) ⊛ ‵ (Answered-row.the-row .own x (v ∷ []))) ⊛ raw (ensured 𝓤 H A step.ended (step.clauses 𝓤 H A at-mem run) (κ, (κ-bytes, (κ-room, tt))) (args-step call) tt x)))) (id⊢ 𝓤 _) $ await ! tt $ pick ! (λ x.
+          split ! $ move ! (1 ∷ []) $ use1 W (some (λ (ws : Lasts step.ended (κ, (κ-bytes, (κ-room, tt))) (args-step call)). ‵ (lasts step.ended (κ, (κ-bytes, (κ-room, tt))) (args-step call) ws) ⊛ raw (fact 𝓤 ((ws .0 ≡ stepOf h (stepFor call bytes room) .next) × (x ≡ answeredOf (stepOf h (stepFor call bytes room))) × (ws .1 .1 .1 .0 ≡ roomFor h call room))))) (id⊢ 𝓤 _) $ pick ! (λ ws.
+          split ! $ move ! (1 ∷ []) $ heard ! ((ws .0 ≡ stepOf h (stepFor call bytes room) .next) × (x ≡ answeredOf (stepOf h (stepFor call bytes room))) × (ws .1 .1 .1 .0 ≡ roomFor h call room)) (λ e. fsplit ! $ move ! (1 ∷ []) $ fsplit ! $ drop ! $ fsplit ! $ drop ! $ fsplit ! $ fsplit ! $ move ! (1 ∷ []) $ feqL ! (λ l.
+          move ! (3 ∷ []) $ split ! $ move ! (1 ∷ []) $ peeks ! Answered-row.the-row (Is Answered-row.the-row) (shows 𝓤 H A Answered-row.the-row) x (v ∷ []) (λ is. drop ! $ split ! $ move ! (1 ∷ []) $ split ! $ move ! (1 ∷ []) $ split ! $
+          land ! (from ! (stop !)) (init ! 18 refl (LL.lawful Answered-row.the-type Answered-row′.the-laws 𝓤 H A W .typed x _ is .0)) $ rewrite ! 18 (λ (u : Val). ‵ (fat fullShare Answered-row′.mir l10 0 u)) (ap only (LL.tells Answered-row.the-type Answered-row′.the-laws x _ is)) refl $
           keep ! (6 ∷ 3 ∷ 2 ∷ 0 ∷ 4 ∷ 7 ∷ 8 ∷ 9 ∷ 10 ∷ 11 ∷ 12 ∷ 13 ∷ 14 ∷ 15 ∷ 16 ∷ 17 ∷ 18 ∷ 19 ∷ 20 ∷ 21 ∷ 22 ∷ 23 ∷ 24 ∷ 25 ∷ 26 ∷ 27 ∷ 28 ∷ 29 ∷ 30 ∷ 31 ∷ 32 ∷ 33 ∷ 34 ∷ 35 ∷ 36 ∷ 37 ∷ []) $ numbering call c-is p (ws .0) x (ws .1 .1 .1 .0) e l (answer-is x _ is)))))))
 
       -- a call to be made
-      calling : {y8 y11 : Val} → (n : ℕ) → n ≡ judgedOf size kind one two → Holds (not (not (eqb n 0))) → Sq W (‵ Own-c ∷ ‵ (flft κ q) ∷ ‵ Own-bytes ∷ ‵ (flft κ-bytes q-bytes) ∷ ‵ Own-room ∷ ‵ (flft κ-room q-room) ∷ ‵ (froom (tyInt w32) l0 0) ∷ ‵ (fat fullShare (tyRef (named 0) mut rec-ty) l1 0 (vptr b o)) ∷ ‵ (fat fullShare (tyInt w64) l2 0 (vint w64 size)) ∷ ‵ (fat fullShare (tyInt w32) l3 0 (vint w32 kind)) ∷ ‵ (fat fullShare (tyInt w32) l4 0 (vint w32 one)) ∷ ‵ (fat fullShare (tyInt w32) l5 0 (vint w32 two)) ∷ ‵ (fat fullShare (sliceTy (tyRef (named 1) imm byte)) l6 0 s-bytes) ∷ ‵ (fat fullShare (sliceTy (tyRef (named 2) mut byte)) l7 0 s-room) ∷ ‵ (fat fullShare (tyInt w32) l8 0 y8) ∷ ‵ (froom Call-row′.mir l9 0) ∷ ‵ (froom Answer-row′.mir l10 0) ∷ ‵ (fat fullShare tyBool l11 0 y11) ∷ ‵ (froom (tyRef erased mut rec-ty) l12 0) ∷ ‵ (froom (tyRef erased mut byte) l13 0) ∷ ‵ (froom (sliceTy (tyRef erased mut byte)) l14 0) ∷ Dies) (runs C Λ En code-4 (atRet En Post))
+      calling : {y8 y11 : Val} → (n : ℕ) → n ≡ judgedOf size kind one two → Holds (not (not (eqb n 0))) → Sq W (‵ Own-c ∷ ‵ (flft κ q) ∷ ‵ Own-bytes ∷ ‵ (flft κ-bytes q-bytes) ∷ ‵ Own-room ∷ ‵ (flft κ-room q-room) ∷ ‵ (froom (tyInt w32) l0 0) ∷ ‵ (fat fullShare (tyRef (named 0) mut rec-ty) l1 0 (vptr b o)) ∷ ‵ (fat fullShare (tyInt w64) l2 0 (vint w64 size)) ∷ ‵ (fat fullShare (tyInt w32) l3 0 (vint w32 kind)) ∷ ‵ (fat fullShare (tyInt w32) l4 0 (vint w32 one)) ∷ ‵ (fat fullShare (tyInt w32) l5 0 (vint w32 two)) ∷ ‵ (fat fullShare (sliceTy (tyRef (named 1) imm byte)) l6 0 s-bytes) ∷ ‵ (fat fullShare (sliceTy (tyRef (named 2) mut byte)) l7 0 s-room) ∷ ‵ (fat fullShare (tyInt w32) l8 0 y8) ∷ ‵ (froom Call-row′.mir l9 0) ∷ ‵ (froom Answered-row′.mir l10 0) ∷ ‵ (fat fullShare tyBool l11 0 y11) ∷ ‵ (froom (tyRef erased mut rec-ty) l12 0) ∷ ‵ (froom (tyRef erased mut byte) l13 0) ∷ ‵ (froom (sliceTy (tyRef erased mut byte)) l14 0) ∷ Dies) (runs C Λ En code-4 (atRet En Post))
       calling n n-e t =
           use0 W (raw (Meant 𝓤 H A at-mem run .pre (to-meant))) (asked-meant) $
           calls-at ! fm (Meant 𝓤 H A at-mem run) known-meant (to-meant) (and-then ! (load ! (from ! (stop !)) (look ! 10 refl)) (and-then ! (load ! (from ! (stop !)) (look ! 11 refl)) (and-then ! (load ! (from ! (stop !)) (look ! 12 refl)) (no-more !)))) (λ v.
@@ -266,7 +266,7 @@ module _ {M : Type 1} (𝓤 : URA M) (H : Heap 𝓤) (A : Atoms 𝓤) (W : Given
           stepping call (call-is call _ is) (called h size kind one two bytes room n call n-e t e))))))
 
       -- no call: the judgement is the answer
-      tested : (n : ℕ) → n ≡ judgedOf size kind one two → n < 2 ^ 32 → Sq W (‵ Own-c ∷ ‵ (flft κ q) ∷ ‵ Own-bytes ∷ ‵ (flft κ-bytes q-bytes) ∷ ‵ Own-room ∷ ‵ (flft κ-room q-room) ∷ ‵ (froom (tyInt w32) l0 0) ∷ ‵ (fat fullShare (tyRef (named 0) mut rec-ty) l1 0 (vptr b o)) ∷ ‵ (fat fullShare (tyInt w64) l2 0 (vint w64 size)) ∷ ‵ (fat fullShare (tyInt w32) l3 0 (vint w32 kind)) ∷ ‵ (fat fullShare (tyInt w32) l4 0 (vint w32 one)) ∷ ‵ (fat fullShare (tyInt w32) l5 0 (vint w32 two)) ∷ ‵ (fat fullShare (sliceTy (tyRef (named 1) imm byte)) l6 0 s-bytes) ∷ ‵ (fat fullShare (sliceTy (tyRef (named 2) mut byte)) l7 0 s-room) ∷ ‵ (fat fullShare (tyInt w32) l8 0 (vint w32 n)) ∷ ‵ (froom Call-row′.mir l9 0) ∷ ‵ (froom Answer-row′.mir l10 0) ∷ ‵ (froom tyBool l11 0) ∷ ‵ (froom (tyRef erased mut rec-ty) l12 0) ∷ ‵ (froom (tyRef erased mut byte) l13 0) ∷ ‵ (froom (sliceTy (tyRef erased mut byte)) l14 0) ∷ Dies) (runs C Λ En code-2 (atRet En Post))
+      tested : (n : ℕ) → n ≡ judgedOf size kind one two → n < 2 ^ 32 → Sq W (‵ Own-c ∷ ‵ (flft κ q) ∷ ‵ Own-bytes ∷ ‵ (flft κ-bytes q-bytes) ∷ ‵ Own-room ∷ ‵ (flft κ-room q-room) ∷ ‵ (froom (tyInt w32) l0 0) ∷ ‵ (fat fullShare (tyRef (named 0) mut rec-ty) l1 0 (vptr b o)) ∷ ‵ (fat fullShare (tyInt w64) l2 0 (vint w64 size)) ∷ ‵ (fat fullShare (tyInt w32) l3 0 (vint w32 kind)) ∷ ‵ (fat fullShare (tyInt w32) l4 0 (vint w32 one)) ∷ ‵ (fat fullShare (tyInt w32) l5 0 (vint w32 two)) ∷ ‵ (fat fullShare (sliceTy (tyRef (named 1) imm byte)) l6 0 s-bytes) ∷ ‵ (fat fullShare (sliceTy (tyRef (named 2) mut byte)) l7 0 s-room) ∷ ‵ (fat fullShare (tyInt w32) l8 0 (vint w32 n)) ∷ ‵ (froom Call-row′.mir l9 0) ∷ ‵ (froom Answered-row′.mir l10 0) ∷ ‵ (froom tyBool l11 0) ∷ ‵ (froom (tyRef erased mut rec-ty) l12 0) ∷ ‵ (froom (tyRef erased mut byte) l13 0) ∷ ‵ (froom (sliceTy (tyRef erased mut byte)) l14 0) ∷ Dies) (runs C Λ En code-2 (atRet En Post))
       tested n e n-fits =
           assigns ! (bin ! (load ! (from ! (stop !)) (look ! 14 refl)) (lit ! tt) tt) (from ! (stop !)) (init ! 17 refl (tt, tt)) $
           first ! $ branches ! (load ! (from ! (stop !)) (look ! 17 refl))
@@ -280,7 +280,7 @@ module _ {M : Type 1} (𝓤 : URA M) (H : Heap 𝓤) (A : Atoms 𝓤) (W : Given
           (λ t. skips ! $ exec ! C Λ En code-4 (atRet En Post) $ calling n e t)
 
       -- from the first statement on: the judgement
-      begun : Sq W (‵ Own-c ∷ ‵ (flft κ q) ∷ ‵ Own-bytes ∷ ‵ (flft κ-bytes q-bytes) ∷ ‵ Own-room ∷ ‵ (flft κ-room q-room) ∷ ‵ (froom (tyInt w32) l0 0) ∷ ‵ (fat fullShare (tyRef (named 0) mut rec-ty) l1 0 (vptr b o)) ∷ ‵ (fat fullShare (tyInt w64) l2 0 (vint w64 size)) ∷ ‵ (fat fullShare (tyInt w32) l3 0 (vint w32 kind)) ∷ ‵ (fat fullShare (tyInt w32) l4 0 (vint w32 one)) ∷ ‵ (fat fullShare (tyInt w32) l5 0 (vint w32 two)) ∷ ‵ (fat fullShare (sliceTy (tyRef (named 1) imm byte)) l6 0 s-bytes) ∷ ‵ (fat fullShare (sliceTy (tyRef (named 2) mut byte)) l7 0 s-room) ∷ ‵ (froom (tyInt w32) l8 0) ∷ ‵ (froom Call-row′.mir l9 0) ∷ ‵ (froom Answer-row′.mir l10 0) ∷ ‵ (froom tyBool l11 0) ∷ ‵ (froom (tyRef erased mut rec-ty) l12 0) ∷ ‵ (froom (tyRef erased mut byte) l13 0) ∷ ‵ (froom (sliceTy (tyRef erased mut byte)) l14 0) ∷ Dies) (runs C Λ En code-1 (atRet En Post))
+      begun : Sq W (‵ Own-c ∷ ‵ (flft κ q) ∷ ‵ Own-bytes ∷ ‵ (flft κ-bytes q-bytes) ∷ ‵ Own-room ∷ ‵ (flft κ-room q-room) ∷ ‵ (froom (tyInt w32) l0 0) ∷ ‵ (fat fullShare (tyRef (named 0) mut rec-ty) l1 0 (vptr b o)) ∷ ‵ (fat fullShare (tyInt w64) l2 0 (vint w64 size)) ∷ ‵ (fat fullShare (tyInt w32) l3 0 (vint w32 kind)) ∷ ‵ (fat fullShare (tyInt w32) l4 0 (vint w32 one)) ∷ ‵ (fat fullShare (tyInt w32) l5 0 (vint w32 two)) ∷ ‵ (fat fullShare (sliceTy (tyRef (named 1) imm byte)) l6 0 s-bytes) ∷ ‵ (fat fullShare (sliceTy (tyRef (named 2) mut byte)) l7 0 s-room) ∷ ‵ (froom (tyInt w32) l8 0) ∷ ‵ (froom Call-row′.mir l9 0) ∷ ‵ (froom Answered-row′.mir l10 0) ∷ ‵ (froom tyBool l11 0) ∷ ‵ (froom (tyRef erased mut rec-ty) l12 0) ∷ ‵ (froom (tyRef erased mut byte) l13 0) ∷ ‵ (froom (sliceTy (tyRef erased mut byte)) l14 0) ∷ Dies) (runs C Λ En code-1 (atRet En Post))
       begun =
           use0 W (raw (Judged 𝓤 H A at-mem run .pre (to-judged))) (asked-judged) $
           calls-at ! fm (Judged 𝓤 H A at-mem run) known-judged (to-judged) (and-then ! (load ! (from ! (stop !)) (look ! 9 refl)) (and-then ! (load ! (from ! (stop !)) (look ! 10 refl)) (and-then ! (load ! (from ! (stop !)) (look ! 11 refl)) (and-then ! (load ! (from ! (stop !)) (look ! 12 refl)) (no-more !))))) (λ v.

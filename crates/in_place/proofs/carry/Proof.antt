@@ -62,9 +62,9 @@ use Rattle.rules.proofs.Control.Laws as Control-row′
 use Rattle.contents.specs.declared.Contents.{Contents}
 use Rattle.contents.proofs.Contents as Row
 use Rattle.contents.proofs.Contents.Laws as Row′
-use Rattle.rules.specs.declared.Answer.{Answer}
-use Rattle.rules.proofs.Answer as Answer-row
-use Rattle.rules.proofs.Answer.Laws as Answer-row′
+use Rattle.controller.specs.declared.Answered.{Answered}
+use Rattle.controller.proofs.Answered as Answered-row
+use Rattle.controller.proofs.Answered.Laws as Answered-row′
 use Rattle.in_place.proofs.Element.{elem, map-set, array-set}
 use Rattle.in_place.proofs.Rows.{at-rows, values, sixteen-values, in-rows, byte-fits}
 use Rattle.in_place.proofs.carry.Key.{name as #this}
@@ -81,7 +81,7 @@ stayed = (stay-ref (0 ∷ []) tt (plain (λ _. T.the-row)), (stay-none (λ _. S.
 
 -- the type of `Change`, with its fields' types by name, so that a field's type is found with nothing computed
 abbrev out-ty : Ty
-out-ty = tyStruct (S.struct .name) (tcons Control-row′.mir (tcons (tyInt w8) (tcons (tyArray (tyInt w8) 14) (tcons Answer-row′.mir tnil))))
+out-ty = tyStruct (S.struct .name) (tcons Control-row′.mir (tcons (tyInt w8) (tcons (tyArray (tyInt w8) 14) (tcons Answered-row′.mir tnil))))
 
 abbrev rec-ty : Ty
 rec-ty = pointee (T.the-row .written)
@@ -118,7 +118,7 @@ module _ {M : Type 1} (𝓤 : URA M) (H : Heap 𝓤) (A : Atoms 𝓤) (W : Given
   control-is : Is Control-row.the-row (x .control) (LL.val Control-row.the-type Control-row′.the-laws (x .control) ∷ [])
   control-is = LL.owed S.the-type S′.the-laws x _ x-is .0
 
-  answer-is : Is Answer-row.the-row (x .answer) (EL.val Answer-row.the-type Answer-row′.the-laws (x .answer) ∷ [])
+  answer-is : Is Answered-row.the-row (x .answered) (LL.val Answered-row.the-type Answered-row′.the-laws (x .answered) ∷ [])
   answer-is = LL.owed S.the-type S′.the-laws x _ x-is .1 .1 .1 .0
 
   buffer-fits : Holds (ltb (x .buffer) 16) → x .buffer < 2 ^ 64
@@ -168,53 +168,53 @@ module _ {M : Type 1} (𝓤 : URA M) (H : Heap 𝓤) (A : Atoms 𝓤) (W : Given
   abbrev Had : Controller → List (Item 𝓤)
   Had c = ‵ (fobs γ (T.the-row .coded .code c)) ∷ ‵ (fbor κ (Body (mem T.the-row) b o γ)) ∷ ‵ (flft κ q) ∷ []
 
-  exits : (c : Controller) → c ≡ changed h x .next → ent 𝓤 (⋆ 𝓤 H A (Had c)) (Post (EL.val Answer-row.the-type Answer-row′.the-laws (x .answer)))
+  exits : (c : Controller) → c ≡ changed h x .next → ent 𝓤 (⋆ 𝓤 H A (Had c)) (Post (LL.val Answered-row.the-type Answered-row′.the-laws (x .answered)))
   exits c e =
       qed W (Had c) ∵
-      suffices ! _ (ends-at 𝓤 H A this.ended stayed (this.clauses 𝓤 H A at-mem run) W (((κ, tt), (q, tt), tt, a, at), tt) (EL.val Answer-row.the-type Answer-row′.the-laws (x .answer)) (x .answer) (c, (tt, tt)) (tt, (tt, tt))) $ says ! (e, refl) $
+      suffices ! _ (ends-at 𝓤 H A this.ended stayed (this.clauses 𝓤 H A at-mem run) W (((κ, tt), (q, tt), tt, a, at), tt) (LL.val Answered-row.the-type Answered-row′.the-laws (x .answered)) (x .answered) (c, (tt, tt)) (tt, (tt, tt))) $ says ! (e, refl) $
       nothing ! $ move ! (3 ∷ 0 ∷ []) $ join ! $ frame ! $
-      nothing ! $ owned ! S.the-row (Is S.the-row) (LL.makes S.the-type S′.the-plain 𝓤 H A) x _ x-is $ fjoin ! $ move ! (1 ∷ 2 ∷ 0 ∷ []) $ feqI ! (List Val) (vptr b o ∷ []) (vptr b o ∷ []) refl $ fjoin3 ! $ fjoin ! $ frame ! $ owned ! Answer-row.the-row (Is Answer-row.the-row) (EL.makes Answer-row.the-type Answer-row′.the-plain 𝓤 H A) (x .answer) _ answer-is $ done !
+      nothing ! $ owned ! S.the-row (Is S.the-row) (LL.makes S.the-type S′.the-plain 𝓤 H A) x _ x-is $ fjoin ! $ move ! (1 ∷ 2 ∷ 0 ∷ []) $ feqI ! (List Val) (vptr b o ∷ []) (vptr b o ∷ []) refl $ fjoin3 ! $ fjoin ! $ frame ! $ owned ! Answered-row.the-row (Is Answered-row.the-row) (LL.makes Answered-row.the-type Answered-row′.the-plain 𝓤 H A) (x .answered) _ answer-is $ done !
 
   module _ (C : Calls 𝓤 H) (Λ : Loops 𝓤 H) where
     module _ (l0 l1 l2 l3 l4 l5 l6 l7 l8 : ℕ) where
       -- the locals, and what frees them
       abbrev En : Env 𝓤 H
-      En = (Answer-row′.mir, l0) ∷ (tyRef (named 0) mut rec-ty, l1) ∷ (out-ty, l2) ∷ (tyInt w64, l3) ∷ (tyBool, l4) ∷ (Row′.mir, l5) ∷ (tyInt w64, l6) ∷ (tyPtr, l7) ∷ (tyPtr, l8) ∷ []
+      En = (Answered-row′.mir, l0) ∷ (tyRef (named 0) mut rec-ty, l1) ∷ (out-ty, l2) ∷ (tyInt w64, l3) ∷ (tyBool, l4) ∷ (Row′.mir, l5) ∷ (tyInt w64, l6) ∷ (tyPtr, l7) ∷ (tyPtr, l8) ∷ []
 
       abbrev Dies : List (Item 𝓤)
-      Dies = ‵ (fdies Answer-row′.mir l0) ∷ ‵ (fdies (tyRef (named 0) mut rec-ty) l1) ∷ ‵ (fdies out-ty l2) ∷ ‵ (fdies (tyInt w64) l3) ∷ ‵ (fdies tyBool l4) ∷ ‵ (fdies Row′.mir l5) ∷ ‵ (fdies (tyInt w64) l6) ∷ ‵ (fdies tyPtr l7) ∷ ‵ (fdies tyPtr l8) ∷ []
+      Dies = ‵ (fdies Answered-row′.mir l0) ∷ ‵ (fdies (tyRef (named 0) mut rec-ty) l1) ∷ ‵ (fdies out-ty l2) ∷ ‵ (fdies (tyInt w64) l3) ∷ ‵ (fdies tyBool l4) ∷ ‵ (fdies Row′.mir l5) ∷ ‵ (fdies (tyInt w64) l6) ∷ ‵ (fdies tyPtr l7) ∷ ‵ (fdies tyPtr l8) ∷ []
 
       -- what is left once an arm has ended
       abbrev Next : Out → SProp 𝓤
       Next = afterSeq 𝓤 H (Wp 𝓤 H C Λ En pieces.t-3 (atReturn 𝓤 H En Post)) (atReturn 𝓤 H En Post)
 
       -- the `return`
-      left : {y1 y2 y4 : Val} (c : Controller) → c ≡ changed h x .next → Sq W (‵ (fobs γ (T.the-row .coded .code c)) ∷ ‵ (fbor κ (Body (mem T.the-row) b o γ)) ∷ ‵ (flft κ q) ∷ ‵ (fat fullShare Answer-row′.mir l0 0 (EL.val Answer-row.the-type Answer-row′.the-laws (x .answer))) ∷ ‵ (fat fullShare (tyRef (named 0) mut rec-ty) l1 0 y1) ∷ ‵ (fat fullShare out-ty l2 0 y2) ∷ ‵ (froom (tyInt w64) l3 0) ∷ ‵ (fat fullShare tyBool l4 0 y4) ∷ ‵ (froom Row′.mir l5 0) ∷ ‵ (froom (tyInt w64) l6 0) ∷ ‵ (froom tyPtr l7 0) ∷ ‵ (froom tyPtr l8 0) ∷ Dies) (runs C Λ En pieces.t-5 (atRet En Post))
+      left : {y1 y2 y4 : Val} (c : Controller) → c ≡ changed h x .next → Sq W (‵ (fobs γ (T.the-row .coded .code c)) ∷ ‵ (fbor κ (Body (mem T.the-row) b o γ)) ∷ ‵ (flft κ q) ∷ ‵ (fat fullShare Answered-row′.mir l0 0 (LL.val Answered-row.the-type Answered-row′.the-laws (x .answered))) ∷ ‵ (fat fullShare (tyRef (named 0) mut rec-ty) l1 0 y1) ∷ ‵ (fat fullShare out-ty l2 0 y2) ∷ ‵ (froom (tyInt w64) l3 0) ∷ ‵ (fat fullShare tyBool l4 0 y4) ∷ ‵ (froom Row′.mir l5 0) ∷ ‵ (froom (tyInt w64) l6 0) ∷ ‵ (froom tyPtr l7 0) ∷ ‵ (froom tyPtr l8 0) ∷ Dies) (runs C Λ En pieces.t-5 (atRet En Post))
       left c e =
           returns ! (look ! 3 refl) $ forget ! 3 refl $ forget ! 4 refl $ forget ! 5 refl $ forget ! 7 refl $
           move ! (3 ∷ 12 ∷ []) $ free1 ! $ move ! (3 ∷ 11 ∷ []) $ free1 ! $ move ! (3 ∷ 10 ∷ []) $ free1 ! $ move ! (3 ∷ 9 ∷ []) $ free1 ! $ move ! (3 ∷ 8 ∷ []) $ free1 ! $ move ! (3 ∷ 7 ∷ []) $ free1 ! $ move ! (3 ∷ 6 ∷ []) $ free1 ! $ move ! (3 ∷ 5 ∷ []) $ free1 ! $ move ! (3 ∷ 4 ∷ []) $ free1 ! $ free0 ! $
           by ! (exits c e)
 
       -- the answer, and the borrow's end at the record c
-      answered : {y4 : Val} (c : Controller) → c ≡ changed h x .next → Is T.the-row c (LL.val T.the-type T′.the-laws c ∷ []) → Sq W (‵ (cellAt fullShare (T.the-row .mir) (mach c ∷ []) b o) ∷ ‵ (fobor κ q (Body (mem T.the-row) b o γ)) ∷ ‵ (fobs γ (T.the-row .coded .code h)) ∷ ‵ (fauth γ (T.the-row .coded .code h)) ∷ ‵ (froom Answer-row′.mir l0 0) ∷ ‵ (fat fullShare (tyRef (named 0) mut rec-ty) l1 0 (vptr b o)) ∷ ‵ (fat fullShare out-ty l2 0 (LL.val S.the-type S′.the-laws x)) ∷ ‵ (froom (tyInt w64) l3 0) ∷ ‵ (fat fullShare tyBool l4 0 y4) ∷ ‵ (froom Row′.mir l5 0) ∷ ‵ (froom (tyInt w64) l6 0) ∷ ‵ (froom tyPtr l7 0) ∷ ‵ (froom tyPtr l8 0) ∷ Dies) (runs C Λ En pieces.t-4 (atRet En Post))
+      answered : {y4 : Val} (c : Controller) → c ≡ changed h x .next → Is T.the-row c (LL.val T.the-type T′.the-laws c ∷ []) → Sq W (‵ (cellAt fullShare (T.the-row .mir) (mach c ∷ []) b o) ∷ ‵ (fobor κ q (Body (mem T.the-row) b o γ)) ∷ ‵ (fobs γ (T.the-row .coded .code h)) ∷ ‵ (fauth γ (T.the-row .coded .code h)) ∷ ‵ (froom Answered-row′.mir l0 0) ∷ ‵ (fat fullShare (tyRef (named 0) mut rec-ty) l1 0 (vptr b o)) ∷ ‵ (fat fullShare out-ty l2 0 (LL.val S.the-type S′.the-laws x)) ∷ ‵ (froom (tyInt w64) l3 0) ∷ ‵ (fat fullShare tyBool l4 0 y4) ∷ ‵ (froom Row′.mir l5 0) ∷ ‵ (froom (tyInt w64) l6 0) ∷ ‵ (froom tyPtr l7 0) ∷ ‵ (froom tyPtr l8 0) ∷ Dies) (runs C Λ En pieces.t-4 (atRet En Post))
       answered c e now-is =
-          assigns ! (of-opd ! (load ! (from ! (fld ! refl (stop !))) (look-in ! 6 (sub ! 3 refl (whole !))))) (from ! (stop !)) (init ! 4 refl (EL.lawful Answer-row.the-type Answer-row′.the-laws 𝓤 H A W tt .typed (x .answer) _ answer-is .0)) $
+          assigns ! (of-opd ! (load ! (from ! (fld ! refl (stop !))) (look-in ! 6 (sub ! 3 refl (whole !))))) (from ! (stop !)) (init ! 4 refl (LL.lawful Answered-row.the-type Answered-row′.the-laws 𝓤 H A W .typed (x .answered) _ answer-is .0)) $
           owned ! T.the-row (Is T.the-row) (LL.makes T.the-type T′.the-plain 𝓤 H A) c _ now-is $ move ! (1 ∷ 0 ∷ 2 ∷ 3 ∷ 4 ∷ []) $ closes ! tt T.the-row c (mach c ∷ []) b o $
           left c e
 
       -- the control state is stored
-      ruling : {y4 : Val} (m : Controller) → ruled m ≡ changed h x .next → Is T.the-row ((ruled m)) (LL.val T.the-type T′.the-laws ((ruled m)) ∷ []) → Sq W (‵ (fat fullShare T′.mir b o (mach m)) ∷ ‵ (fobor κ q (Body (mem T.the-row) b o γ)) ∷ ‵ (fobs γ (T.the-row .coded .code h)) ∷ ‵ (fauth γ (T.the-row .coded .code h)) ∷ ‵ (froom Answer-row′.mir l0 0) ∷ ‵ (fat fullShare (tyRef (named 0) mut rec-ty) l1 0 (vptr b o)) ∷ ‵ (fat fullShare out-ty l2 0 (LL.val S.the-type S′.the-laws x)) ∷ ‵ (froom (tyInt w64) l3 0) ∷ ‵ (fat fullShare tyBool l4 0 y4) ∷ ‵ (froom Row′.mir l5 0) ∷ ‵ (froom (tyInt w64) l6 0) ∷ ‵ (froom tyPtr l7 0) ∷ ‵ (froom tyPtr l8 0) ∷ Dies) (runs C Λ En pieces.t-3 (atRet En Post))
+      ruling : {y4 : Val} (m : Controller) → ruled m ≡ changed h x .next → Is T.the-row ((ruled m)) (LL.val T.the-type T′.the-laws ((ruled m)) ∷ []) → Sq W (‵ (fat fullShare T′.mir b o (mach m)) ∷ ‵ (fobor κ q (Body (mem T.the-row) b o γ)) ∷ ‵ (fobs γ (T.the-row .coded .code h)) ∷ ‵ (fauth γ (T.the-row .coded .code h)) ∷ ‵ (froom Answered-row′.mir l0 0) ∷ ‵ (fat fullShare (tyRef (named 0) mut rec-ty) l1 0 (vptr b o)) ∷ ‵ (fat fullShare out-ty l2 0 (LL.val S.the-type S′.the-laws x)) ∷ ‵ (froom (tyInt w64) l3 0) ∷ ‵ (fat fullShare tyBool l4 0 y4) ∷ ‵ (froom Row′.mir l5 0) ∷ ‵ (froom (tyInt w64) l6 0) ∷ ‵ (froom tyPtr l7 0) ∷ ‵ (froom tyPtr l8 0) ∷ Dies) (runs C Λ En pieces.t-3 (atRet En Post))
       ruling m e now-is =
           assigns ! (of-opd ! (load ! (from ! (fld ! refl (stop !))) (look-in ! 6 (sub ! 0 refl (whole !))))) (from ! (hop ! (look ! 5 refl) (fld ! refl (stop !)))) (store-in ! 0 (sub ! 0 refl (whole !)) (LL.lawful Control-row.the-type Control-row′.the-laws 𝓤 H A W .typed (x .control) _ control-is .0)) $
           use1 W (‵ (cellAt fullShare (T.the-row .mir) (mach ((ruled m)) ∷ []) b o)) (W .laws .at-raw fullShare T′.mir b o (mach ((ruled m)))) $ answered (ruled m) e now-is
 
       -- no buffer's bytes change
-      leaving : {y4 : Val} → Is T.the-row h (LL.val T.the-type T′.the-laws h ∷ []) → Holds (not (ltb (x .buffer) 16)) → Sq W (‵ (fat fullShare T′.mir b o (mach h)) ∷ ‵ (fobor κ q (Body (mem T.the-row) b o γ)) ∷ ‵ (fobs γ (T.the-row .coded .code h)) ∷ ‵ (fauth γ (T.the-row .coded .code h)) ∷ ‵ (froom Answer-row′.mir l0 0) ∷ ‵ (fat fullShare (tyRef (named 0) mut rec-ty) l1 0 (vptr b o)) ∷ ‵ (fat fullShare out-ty l2 0 (LL.val S.the-type S′.the-laws x)) ∷ ‵ (froom (tyInt w64) l3 0) ∷ ‵ (fat fullShare tyBool l4 0 y4) ∷ ‵ (froom Row′.mir l5 0) ∷ ‵ (froom (tyInt w64) l6 0) ∷ ‵ (froom tyPtr l7 0) ∷ ‵ (froom tyPtr l8 0) ∷ Dies) (runs C Λ En skipᴹ (anyQ Next))
+      leaving : {y4 : Val} → Is T.the-row h (LL.val T.the-type T′.the-laws h ∷ []) → Holds (not (ltb (x .buffer) 16)) → Sq W (‵ (fat fullShare T′.mir b o (mach h)) ∷ ‵ (fobor κ q (Body (mem T.the-row) b o γ)) ∷ ‵ (fobs γ (T.the-row .coded .code h)) ∷ ‵ (fauth γ (T.the-row .coded .code h)) ∷ ‵ (froom Answered-row′.mir l0 0) ∷ ‵ (fat fullShare (tyRef (named 0) mut rec-ty) l1 0 (vptr b o)) ∷ ‵ (fat fullShare out-ty l2 0 (LL.val S.the-type S′.the-laws x)) ∷ ‵ (froom (tyInt w64) l3 0) ∷ ‵ (fat fullShare tyBool l4 0 y4) ∷ ‵ (froom Row′.mir l5 0) ∷ ‵ (froom (tyInt w64) l6 0) ∷ ‵ (froom tyPtr l7 0) ∷ ‵ (froom tyPtr l8 0) ∷ Dies) (runs C Λ En skipᴹ (anyQ Next))
       leaving was t =
           skips ! $ exec ! C Λ En pieces.t-3 (atRet En Post) $ ruling h (ruled-so t) (ruled-is was)
 
       -- the bytes are stored there
-      placed-there : {y3 y4 y6 y7 : Val} → Holds (ltb (x .buffer) 16) → Is T.the-row h (LL.val T.the-type T′.the-laws h ∷ []) → Sq W (‵ (fat fullShare T′.mir b o (mach h)) ∷ ‵ (fobor κ q (Body (mem T.the-row) b o γ)) ∷ ‵ (fobs γ (T.the-row .coded .code h)) ∷ ‵ (fauth γ (T.the-row .coded .code h)) ∷ ‵ (froom Answer-row′.mir l0 0) ∷ ‵ (fat fullShare (tyRef (named 0) mut rec-ty) l1 0 (vptr b o)) ∷ ‵ (fat fullShare out-ty l2 0 (LL.val S.the-type S′.the-laws x)) ∷ ‵ (fat fullShare (tyInt w64) l3 0 y3) ∷ ‵ (fat fullShare tyBool l4 0 y4) ∷ ‵ (fat fullShare Row′.mir l5 0 (LL.val Row.the-type Row′.the-laws row)) ∷ ‵ (fat fullShare (tyInt w64) l6 0 y6) ∷ ‵ (fat fullShare tyPtr l7 0 y7) ∷ ‵ (fat fullShare tyPtr l8 0 (vptr b (x .buffer * 14 + (o + at-rows)))) ∷ Dies) (runs C Λ En code-placed (anyQ Next))
+      placed-there : {y3 y4 y6 y7 : Val} → Holds (ltb (x .buffer) 16) → Is T.the-row h (LL.val T.the-type T′.the-laws h ∷ []) → Sq W (‵ (fat fullShare T′.mir b o (mach h)) ∷ ‵ (fobor κ q (Body (mem T.the-row) b o γ)) ∷ ‵ (fobs γ (T.the-row .coded .code h)) ∷ ‵ (fauth γ (T.the-row .coded .code h)) ∷ ‵ (froom Answered-row′.mir l0 0) ∷ ‵ (fat fullShare (tyRef (named 0) mut rec-ty) l1 0 (vptr b o)) ∷ ‵ (fat fullShare out-ty l2 0 (LL.val S.the-type S′.the-laws x)) ∷ ‵ (fat fullShare (tyInt w64) l3 0 y3) ∷ ‵ (fat fullShare tyBool l4 0 y4) ∷ ‵ (fat fullShare Row′.mir l5 0 (LL.val Row.the-type Row′.the-laws row)) ∷ ‵ (fat fullShare (tyInt w64) l6 0 y6) ∷ ‵ (fat fullShare tyPtr l7 0 y7) ∷ ‵ (fat fullShare tyPtr l8 0 (vptr b (x .buffer * 14 + (o + at-rows)))) ∷ Dies) (runs C Λ En code-placed (anyQ Next))
       placed-there t was =
           rewrite ! 12 (λ (m : ℕ). ‵ (fat fullShare tyPtr l8 0 (vptr b m))) (sym (place-is 14 (o + at-rows) (x .buffer))) refl $
           assigns-last ! (of-opd ! (load ! (from ! (stop !)) (look ! 9 refl))) (from ! (hop ! (look ! 12 refl) (stop !))) (store-in ! 0 (elem ! (values (h .rows)) (x .buffer) (LL.val Row.the-type Row′.the-laws row) (in-rows h was (x .buffer) (ltb→lt (x .buffer) 16 t)) (sixteen-values h was) (sub ! 1 refl (whole !))) (LL.lawful Row.the-type Row′.the-laws 𝓤 H A W .typed row _ row-is .0)) $ exec ! C Λ En pieces.t-3 (atRet En Post) $
@@ -222,7 +222,7 @@ module _ {M : Type 1} (𝓤 : URA M) (H : Heap 𝓤) (A : Atoms 𝓤) (W : Given
           forget ! 7 refl $ forget ! 9 refl $ forget ! 10 refl $ forget ! 11 refl $ forget ! 12 refl $ ruling placed (stored-so t) (stored-is was)
 
       -- the place of the buffer's bytes is had
-      placing : {y4 : Val} → Is T.the-row h (LL.val T.the-type T′.the-laws h ∷ []) → Holds (ltb (x .buffer) 16) → Sq W (‵ (fat fullShare T′.mir b o (mach h)) ∷ ‵ (fobor κ q (Body (mem T.the-row) b o γ)) ∷ ‵ (fobs γ (T.the-row .coded .code h)) ∷ ‵ (fauth γ (T.the-row .coded .code h)) ∷ ‵ (froom Answer-row′.mir l0 0) ∷ ‵ (fat fullShare (tyRef (named 0) mut rec-ty) l1 0 (vptr b o)) ∷ ‵ (fat fullShare out-ty l2 0 (LL.val S.the-type S′.the-laws x)) ∷ ‵ (froom (tyInt w64) l3 0) ∷ ‵ (fat fullShare tyBool l4 0 y4) ∷ ‵ (froom Row′.mir l5 0) ∷ ‵ (froom (tyInt w64) l6 0) ∷ ‵ (froom tyPtr l7 0) ∷ ‵ (froom tyPtr l8 0) ∷ Dies) (runs C Λ En code-placing (anyQ Next))
+      placing : {y4 : Val} → Is T.the-row h (LL.val T.the-type T′.the-laws h ∷ []) → Holds (ltb (x .buffer) 16) → Sq W (‵ (fat fullShare T′.mir b o (mach h)) ∷ ‵ (fobor κ q (Body (mem T.the-row) b o γ)) ∷ ‵ (fobs γ (T.the-row .coded .code h)) ∷ ‵ (fauth γ (T.the-row .coded .code h)) ∷ ‵ (froom Answered-row′.mir l0 0) ∷ ‵ (fat fullShare (tyRef (named 0) mut rec-ty) l1 0 (vptr b o)) ∷ ‵ (fat fullShare out-ty l2 0 (LL.val S.the-type S′.the-laws x)) ∷ ‵ (froom (tyInt w64) l3 0) ∷ ‵ (fat fullShare tyBool l4 0 y4) ∷ ‵ (froom Row′.mir l5 0) ∷ ‵ (froom (tyInt w64) l6 0) ∷ ‵ (froom tyPtr l7 0) ∷ ‵ (froom tyPtr l8 0) ∷ Dies) (runs C Λ En code-placing (anyQ Next))
       placing was t =
           assigns ! (un ! (load ! (from ! (fld ! refl (stop !))) (look-in ! 6 (sub ! 1 refl (whole !)))) (record { fits = buffer-fits t })) (from ! (stop !)) (init ! 7 refl (tt, record { fits = buffer-fits t })) $
           assigns ! (agg ! (and-then ! (load ! (from ! (fld ! refl (stop !))) (look-in ! 6 (sub ! 2 refl (whole !)))) (no-more !))) (from ! (stop !)) (init ! 9 refl (LL.lawful Row.the-type Row′.the-laws 𝓤 H A W .typed row _ row-is .0)) $
@@ -232,7 +232,7 @@ module _ {M : Type 1} (𝓤 : URA M) (H : Heap 𝓤) (A : Atoms 𝓤) (W : Given
           placed-there t was
 
       -- the borrow is opened, and the buffer's number is tested
-      opened : Sq W (‵ (MutRef (named 0) κ T.the-row .own (rec h) (vptr b o ∷ [])) ∷ ‵ (flft κ q) ∷ ‵ (froom Answer-row′.mir l0 0) ∷ ‵ (fat fullShare (tyRef (named 0) mut rec-ty) l1 0 (vptr b o)) ∷ ‵ (fat fullShare out-ty l2 0 (LL.val S.the-type S′.the-laws x)) ∷ ‵ (froom (tyInt w64) l3 0) ∷ ‵ (froom tyBool l4 0) ∷ ‵ (froom Row′.mir l5 0) ∷ ‵ (froom (tyInt w64) l6 0) ∷ ‵ (froom tyPtr l7 0) ∷ ‵ (froom tyPtr l8 0) ∷ Dies) (runs C Λ En pieces.t-1 (atRet En Post))
+      opened : Sq W (‵ (MutRef (named 0) κ T.the-row .own (rec h) (vptr b o ∷ [])) ∷ ‵ (flft κ q) ∷ ‵ (froom Answered-row′.mir l0 0) ∷ ‵ (fat fullShare (tyRef (named 0) mut rec-ty) l1 0 (vptr b o)) ∷ ‵ (fat fullShare out-ty l2 0 (LL.val S.the-type S′.the-laws x)) ∷ ‵ (froom (tyInt w64) l3 0) ∷ ‵ (froom tyBool l4 0) ∷ ‵ (froom Row′.mir l5 0) ∷ ‵ (froom (tyInt w64) l6 0) ∷ ‵ (froom tyPtr l7 0) ∷ ‵ (froom tyPtr l8 0) ∷ Dies) (runs C Λ En pieces.t-1 (atRet En Post))
       opened =
           fsplit3 ! $ drop ! $
           opens ! tt T.the-row {h = h} b o (λ vs. spelt ! T.the-row (Is T.the-row) (shows 𝓤 H A T.the-row) (LL.vals T.the-type T′.the-laws) (LL.tells T.the-type T′.the-laws) fullShare h vs b o $

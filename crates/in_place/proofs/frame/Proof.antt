@@ -45,7 +45,7 @@ use denote.Exit.{yes}
 use Rattle.rules.specs.Steps.{frame as frameStep}
 use Rattle.controller.specs.declared.Done.{Done}
 use Rattle.controller.specs.Session.{stepOf}
-use Rattle.controller.specs.Calls.{doneOf}
+use Rattle.controller.specs.Calls.{doneOf, answerIn}
 use Rattle.controller.specs.Code.{changed}
 use Rattle.controller.specs.Code.{rulingFor, frameChange}
 use Rattle.controller.specs.CodeLaws.{frame-changes}
@@ -59,9 +59,9 @@ use Rattle.controller.proofs.Change.Laws as S′
 use Rattle.rules.specs.declared.Ruling.{Ruling}
 use Rattle.rules.proofs.Ruling as Ruling-row
 use Rattle.rules.proofs.Ruling.Laws as Ruling-row′
-use Rattle.rules.specs.declared.Answer.{Answer}
-use Rattle.rules.proofs.Answer as Answer-row
-use Rattle.rules.proofs.Answer.Laws as Answer-row′
+use Rattle.controller.specs.declared.Answered.{Answered}
+use Rattle.controller.proofs.Answered as Answered-row
+use Rattle.controller.proofs.Answered.Laws as Answered-row′
 use Rattle.rules.proofs.Control.Laws as Control-row′
 use Rattle.controller.proofs.events.frame_ruling as ruler
 use Rattle.controller.proofs.events.frame_ruling.Symbol as ruler-def
@@ -99,7 +99,7 @@ Carries 𝓤 H A mem run = tripleOf 𝓤 H A carries.signature (carries.spec �
 
 -- the type of `Change`, with its fields' types by name, so that a field's type is found with nothing computed
 abbrev out-ty : Ty
-out-ty = tyStruct (S.struct .name) (tcons Control-row′.mir (tcons (tyInt w8) (tcons (tyArray (tyInt w8) 14) (tcons Answer-row′.mir tnil))))
+out-ty = tyStruct (S.struct .name) (tcons Control-row′.mir (tcons (tyInt w8) (tcons (tyArray (tyInt w8) 14) (tcons Answered-row′.mir tnil))))
 
 abbrev rec-ty : Ty
 rec-ty = pointee (T.the-row .written)
@@ -118,8 +118,8 @@ change-is x vs g = LL.owes S.the-type S′.the-laws x (LL.owed S.the-type S′.t
 ruling-is : (r : Ruling) (vs : List Val) → Is Ruling-row.the-row r vs → Is Ruling-row.the-row r (LL.val Ruling-row.the-type Ruling-row′.the-laws r ∷ [])
 ruling-is r vs g = LL.owes Ruling-row.the-type Ruling-row′.the-laws r (LL.owed Ruling-row.the-type Ruling-row′.the-laws r vs g)
 
-answer-is : (x : Answer) (vs : List Val) → Is Answer-row.the-row x vs → Is Answer-row.the-row x (EL.val Answer-row.the-type Answer-row′.the-laws x ∷ [])
-answer-is x vs g = subst (Is Answer-row.the-row x) (EL.tells Answer-row.the-type Answer-row′.the-laws x vs g) g
+answer-is : (x : Answered) (vs : List Val) → Is Answered-row.the-row x vs → Is Answered-row.the-row x (LL.val Answered-row.the-type Answered-row′.the-laws x ∷ [])
+answer-is x vs g = subst (Is Answered-row.the-row x) (LL.tells Answered-row.the-type Answered-row′.the-laws x vs g) g
 
 module _ {M : Type 1} (𝓤 : URA M) (H : Heap 𝓤) (A : Atoms 𝓤) (W : Given 𝓤 H A) (at-mem : Memory → SProp 𝓤) (run : Routine → Fun 𝓤) (κ κ-f : Lft) (q q-f : Share) (b o : ℕ) (γ : GName) (h : Controller) (good : Bool) (b-f o-f : ℕ) (γ-f : GName) (f : List ℕ) (f-room : Room u8 (length f)) where
   abbrev rec : RefT Controller
@@ -147,19 +147,19 @@ module _ {M : Type 1} (𝓤 : URA M) (H : Heap 𝓤) (A : Atoms 𝓤) (W : Given
   abbrev Post : Val → SProp 𝓤
   Post = walkOf 𝓤 H A this.ended stayed (this.clauses 𝓤 H A at-mem run) .post (((κ, (κ-f, tt)), (q, (q-f, tt)), tt, a, at), tt)
 
-  abbrev Says : Controller → Answer → Type 0
-  Says c m = (c ≡ doneOf (stepOf h (frameStep good f)) .next) × (m ≡ doneOf (stepOf h (frameStep good f)) .answer)
+  abbrev Says : Controller → Answered → Type 0
+  Says c m = (c ≡ doneOf (stepOf h (frameStep good f)) .next) × (m ≡ answerIn (doneOf (stepOf h (frameStep good f))))
 
   -- what is had at exit
   abbrev Had : Controller → List (Item 𝓤)
   Had c = ‵ (fres γ (T.the-row .coded .code c)) ∷ ‵ (flft κ q) ∷ ‵ Bytes ∷ ‵ (flft κ-f q-f) ∷ []
 
-  exits : (c : Controller) (m : Answer) → Says c m → Is Answer-row.the-row m (EL.val Answer-row.the-type Answer-row′.the-laws m ∷ []) → ent 𝓤 (⋆ 𝓤 H A (Had c)) (Post (EL.val Answer-row.the-type Answer-row′.the-laws m))
+  exits : (c : Controller) (m : Answered) → Says c m → Is Answered-row.the-row m (LL.val Answered-row.the-type Answered-row′.the-laws m ∷ []) → ent 𝓤 (⋆ 𝓤 H A (Had c)) (Post (LL.val Answered-row.the-type Answered-row′.the-laws m))
   exits c m e g =
       qed W (Had c) ∵
-      suffices ! _ (ends-at 𝓤 H A this.ended stayed (this.clauses 𝓤 H A at-mem run) W (((κ, (κ-f, tt)), (q, (q-f, tt)), tt, a, at), tt) (EL.val Answer-row.the-type Answer-row′.the-laws m) m (c, (tt, (tt, tt))) (tt, (tt, (tt, tt)))) $ says ! e $
+      suffices ! _ (ends-at 𝓤 H A this.ended stayed (this.clauses 𝓤 H A at-mem run) W (((κ, (κ-f, tt)), (q, (q-f, tt)), tt, a, at), tt) (LL.val Answered-row.the-type Answered-row′.the-laws m) m (c, (tt, (tt, tt))) (tt, (tt, (tt, tt)))) $ says ! e $
       nothing ! $ move ! (4 ∷ 0 ∷ []) $ join ! $ move ! (2 ∷ 0 ∷ []) $ join ! $ frame ! $
-      nothing ! $ move ! (2 ∷ 0 ∷ []) $ fjoin ! $ owned ! boolean (Is boolean) (bool-makes 𝓤 H A W) good _ refl $ fjoin ! $ move ! (1 ∷ 0 ∷ []) $ fjoin ! $ frame ! $ owned ! Answer-row.the-row (Is Answer-row.the-row) (EL.makes Answer-row.the-type Answer-row′.the-plain 𝓤 H A) m _ g $ done !
+      nothing ! $ move ! (2 ∷ 0 ∷ []) $ fjoin ! $ owned ! boolean (Is boolean) (bool-makes 𝓤 H A W) good _ refl $ fjoin ! $ move ! (1 ∷ 0 ∷ []) $ fjoin ! $ frame ! $ owned ! Answered-row.the-row (Is Answered-row.the-row) (LL.makes Answered-row.the-type Answered-row′.the-plain 𝓤 H A) m _ g $ done !
 
   -- what the triples bind outside, and what they ask
   abbrev args-ruler : Controller × (Bool × (RefT (List ℕ) × Unit {0}))
@@ -193,28 +193,28 @@ module _ {M : Type 1} (𝓤 : URA M) (H : Heap 𝓤) (A : Atoms 𝓤) (W : Given
     module _ (l0 l1 l2 l3 l4 l5 l6 l7 : ℕ) where
       -- the locals, and what frees them
       abbrev En : Env 𝓤 H
-      En = (Answer-row′.mir, l0) ∷ (tyRef (named 0) mut rec-ty, l1) ∷ (tyBool, l2) ∷ (sliceTy (tyRef (named 1) imm (tyInt w8)), l3) ∷ (Ruling-row′.mir, l4) ∷ (out-ty, l5) ∷ (T′.mir, l6) ∷ (tyRef erased mut rec-ty, l7) ∷ []
+      En = (Answered-row′.mir, l0) ∷ (tyRef (named 0) mut rec-ty, l1) ∷ (tyBool, l2) ∷ (sliceTy (tyRef (named 1) imm (tyInt w8)), l3) ∷ (Ruling-row′.mir, l4) ∷ (out-ty, l5) ∷ (T′.mir, l6) ∷ (tyRef erased mut rec-ty, l7) ∷ []
 
       abbrev Dies : List (Item 𝓤)
-      Dies = ‵ (fdies Answer-row′.mir l0) ∷ ‵ (fdies (tyRef (named 0) mut rec-ty) l1) ∷ ‵ (fdies tyBool l2) ∷ ‵ (fdies (sliceTy (tyRef (named 1) imm (tyInt w8))) l3) ∷ ‵ (fdies Ruling-row′.mir l4) ∷ ‵ (fdies out-ty l5) ∷ ‵ (fdies T′.mir l6) ∷ ‵ (fdies (tyRef erased mut rec-ty) l7) ∷ []
+      Dies = ‵ (fdies Answered-row′.mir l0) ∷ ‵ (fdies (tyRef (named 0) mut rec-ty) l1) ∷ ‵ (fdies tyBool l2) ∷ ‵ (fdies (sliceTy (tyRef (named 1) imm (tyInt w8))) l3) ∷ ‵ (fdies Ruling-row′.mir l4) ∷ ‵ (fdies out-ty l5) ∷ ‵ (fdies T′.mir l6) ∷ ‵ (fdies (tyRef erased mut rec-ty) l7) ∷ []
 
       -- the change is carried out, the record being lent again at its own lifetime
-      carrying : {y4 y6 : Val} (x : Change) → Is S.the-row x (LL.val S.the-type S′.the-laws x ∷ []) → changed h x ≡ doneOf (stepOf h (frameStep good f)) → Sq W (‵ (fobs γ (T.the-row .coded .code h)) ∷ ‵ (fbor κ (Body (mem T.the-row) b o γ)) ∷ ‵ (flft κ q) ∷ ‵ Bytes ∷ ‵ (flft κ-f q-f) ∷ ‵ (froom Answer-row′.mir l0 0) ∷ ‵ (fat fullShare (tyRef (named 0) mut rec-ty) l1 0 (vptr b o)) ∷ ‵ (fat fullShare tyBool l2 0 (vbool good)) ∷ ‵ (fat fullShare (sliceTy (tyRef (named 1) imm (tyInt w8))) l3 0 s-f) ∷ ‵ (fat fullShare Ruling-row′.mir l4 0 y4) ∷ ‵ (fat fullShare out-ty l5 0 (LL.val S.the-type S′.the-laws x)) ∷ ‵ (fat fullShare T′.mir l6 0 y6) ∷ ‵ (froom (tyRef erased mut rec-ty) l7 0) ∷ Dies) (runs C Λ En pieces.t-4 (atRet En Post))
+      carrying : {y4 y6 : Val} (x : Change) → Is S.the-row x (LL.val S.the-type S′.the-laws x ∷ []) → changed h x ≡ doneOf (stepOf h (frameStep good f)) → Sq W (‵ (fobs γ (T.the-row .coded .code h)) ∷ ‵ (fbor κ (Body (mem T.the-row) b o γ)) ∷ ‵ (flft κ q) ∷ ‵ Bytes ∷ ‵ (flft κ-f q-f) ∷ ‵ (froom Answered-row′.mir l0 0) ∷ ‵ (fat fullShare (tyRef (named 0) mut rec-ty) l1 0 (vptr b o)) ∷ ‵ (fat fullShare tyBool l2 0 (vbool good)) ∷ ‵ (fat fullShare (sliceTy (tyRef (named 1) imm (tyInt w8))) l3 0 s-f) ∷ ‵ (fat fullShare Ruling-row′.mir l4 0 y4) ∷ ‵ (fat fullShare out-ty l5 0 (LL.val S.the-type S′.the-laws x)) ∷ ‵ (fat fullShare T′.mir l6 0 y6) ∷ ‵ (froom (tyRef erased mut rec-ty) l7 0) ∷ Dies) (runs C Λ En pieces.t-4 (atRet En Post))
       carrying x x-is e =
           assigns ! (addr ! (from ! (hop ! (look ! 6 refl) (stop !)))) (from ! (stop !)) (init ! 12 refl (tt, tt)) $
           group ! 3 $ use1 W (raw ((Carries 𝓤 H A at-mem run) .pre (to-carry x))) (asked-carry x x-is) $
           calls-at ! fm (Carries 𝓤 H A at-mem run) known-carries (to-carry x) (and-then ! (load ! (from ! (stop !)) (look ! 10 refl)) (and-then ! (load ! (from ! (stop !)) (look ! 8 refl)) (no-more !))) (λ v.
-          use1 W (later (some (λ (m : Answer). ((‵ (flft κ q) ⊛ ‵ ftrue) ⊛ ‵ (Answer-row.the-row .own m (v ∷ []))) ⊛ raw (ensured 𝓤 H A carries.ended (carries.clauses 𝓤 H A at-mem run) (κ, tt) (args-carry x) tt m)))) (id⊢ 𝓤 _) $ await ! tt $ pick ! (λ m.
-          split ! $ move ! (1 ∷ []) $ use1 W (some (λ (ws : Lasts carries.ended (κ, tt) (args-carry x)). ‵ (lasts carries.ended (κ, tt) (args-carry x) ws) ⊛ raw (fact 𝓤 ((ws .0 ≡ changed h x .next) × (m ≡ x .answer))))) (id⊢ 𝓤 _) $ pick ! (λ ws.
-          split ! $ move ! (1 ∷ []) $ heard ! ((ws .0 ≡ changed h x .next) × (m ≡ x .answer)) (λ d. fsplit ! $
-          move ! (2 ∷ []) $ split ! $ move ! (1 ∷ []) $ peeks ! Answer-row.the-row (Is Answer-row.the-row) (shows 𝓤 H A Answer-row.the-row) m (v ∷ []) (λ is. drop ! $ split ! $
-          land ! (from ! (stop !)) (init ! 6 refl (EL.lawful Answer-row.the-type Answer-row′.the-laws 𝓤 H A W tt .typed m _ is .0)) $ rewrite ! 6 (λ (u : Val). ‵ (fat fullShare Answer-row′.mir l0 0 u)) (ap only (EL.tells Answer-row.the-type Answer-row′.the-laws m _ is)) refl $
+          use1 W (later (some (λ (m : Answered). ((‵ (flft κ q) ⊛ ‵ ftrue) ⊛ ‵ (Answered-row.the-row .own m (v ∷ []))) ⊛ raw (ensured 𝓤 H A carries.ended (carries.clauses 𝓤 H A at-mem run) (κ, tt) (args-carry x) tt m)))) (id⊢ 𝓤 _) $ await ! tt $ pick ! (λ m.
+          split ! $ move ! (1 ∷ []) $ use1 W (some (λ (ws : Lasts carries.ended (κ, tt) (args-carry x)). ‵ (lasts carries.ended (κ, tt) (args-carry x) ws) ⊛ raw (fact 𝓤 ((ws .0 ≡ changed h x .next) × (m ≡ x .answered))))) (id⊢ 𝓤 _) $ pick ! (λ ws.
+          split ! $ move ! (1 ∷ []) $ heard ! ((ws .0 ≡ changed h x .next) × (m ≡ x .answered)) (λ d. fsplit ! $
+          move ! (2 ∷ []) $ split ! $ move ! (1 ∷ []) $ peeks ! Answered-row.the-row (Is Answered-row.the-row) (shows 𝓤 H A Answered-row.the-row) m (v ∷ []) (λ is. drop ! $ split ! $
+          land ! (from ! (stop !)) (init ! 6 refl (LL.lawful Answered-row.the-type Answered-row′.the-laws 𝓤 H A W .typed m _ is .0)) $ rewrite ! 6 (λ (u : Val). ‵ (fat fullShare Answered-row′.mir l0 0 u)) (ap only (LL.tells Answered-row.the-type Answered-row′.the-laws m _ is)) refl $
           returns ! (look ! 6 refl) $ forget ! 6 refl $ forget ! 7 refl $ forget ! 8 refl $ forget ! 9 refl $ forget ! 10 refl $ forget ! 11 refl $ forget ! 12 refl $ forget ! 13 refl $
           move ! (6 ∷ 14 ∷ []) $ free1 ! $ move ! (6 ∷ 13 ∷ []) $ free1 ! $ move ! (6 ∷ 12 ∷ []) $ free1 ! $ move ! (6 ∷ 11 ∷ []) $ free1 ! $ move ! (6 ∷ 10 ∷ []) $ free1 ! $ move ! (6 ∷ 9 ∷ []) $ free1 ! $ move ! (6 ∷ 8 ∷ []) $ free1 ! $ move ! (6 ∷ 7 ∷ []) $ free1 ! $ free0 ! $
-          keep ! (2 ∷ 0 ∷ 4 ∷ 5 ∷ []) $ by ! (exits (ws .0) m (d .0 ∙ ap (λ (u : Done). u .next) e, d .1 ∙ ap (λ (u : Done). u .answer) e) (answer-is m _ is)))))))
+          keep ! (2 ∷ 0 ∷ 4 ∷ 5 ∷ []) $ by ! (exits (ws .0) m (d .0 ∙ ap (λ (u : Done). u .next) e, d .1 ∙ ap answerIn e) (answer-is m _ is)))))))
 
       -- what the ruling changes
-      changing : {y6 : Val} (r : Ruling) → Is Ruling-row.the-row r (LL.val Ruling-row.the-type Ruling-row′.the-laws r ∷ []) → changed h (frameChange r f) ≡ doneOf (stepOf h (frameStep good f)) → Sq W (‵ (fobs γ (T.the-row .coded .code h)) ∷ ‵ (fbor κ (Body (mem T.the-row) b o γ)) ∷ ‵ (flft κ q) ∷ ‵ Bytes ∷ ‵ (flft κ-f q-f) ∷ ‵ (froom Answer-row′.mir l0 0) ∷ ‵ (fat fullShare (tyRef (named 0) mut rec-ty) l1 0 (vptr b o)) ∷ ‵ (fat fullShare tyBool l2 0 (vbool good)) ∷ ‵ (fat fullShare (sliceTy (tyRef (named 1) imm (tyInt w8))) l3 0 s-f) ∷ ‵ (fat fullShare Ruling-row′.mir l4 0 (LL.val Ruling-row.the-type Ruling-row′.the-laws r)) ∷ ‵ (froom out-ty l5 0) ∷ ‵ (fat fullShare T′.mir l6 0 y6) ∷ ‵ (froom (tyRef erased mut rec-ty) l7 0) ∷ Dies) (runs C Λ En pieces.t-3 (atRet En Post))
+      changing : {y6 : Val} (r : Ruling) → Is Ruling-row.the-row r (LL.val Ruling-row.the-type Ruling-row′.the-laws r ∷ []) → changed h (frameChange r f) ≡ doneOf (stepOf h (frameStep good f)) → Sq W (‵ (fobs γ (T.the-row .coded .code h)) ∷ ‵ (fbor κ (Body (mem T.the-row) b o γ)) ∷ ‵ (flft κ q) ∷ ‵ Bytes ∷ ‵ (flft κ-f q-f) ∷ ‵ (froom Answered-row′.mir l0 0) ∷ ‵ (fat fullShare (tyRef (named 0) mut rec-ty) l1 0 (vptr b o)) ∷ ‵ (fat fullShare tyBool l2 0 (vbool good)) ∷ ‵ (fat fullShare (sliceTy (tyRef (named 1) imm (tyInt w8))) l3 0 s-f) ∷ ‵ (fat fullShare Ruling-row′.mir l4 0 (LL.val Ruling-row.the-type Ruling-row′.the-laws r)) ∷ ‵ (froom out-ty l5 0) ∷ ‵ (fat fullShare T′.mir l6 0 y6) ∷ ‵ (froom (tyRef erased mut rec-ty) l7 0) ∷ Dies) (runs C Λ En pieces.t-3 (atRet En Post))
       changing r r-is e =
           move ! (3 ∷ []) $ use1 W (‵ Bytes ⊛ ‵ Bytes) (shr-slice-copy 𝓤 H A W (named 1) κ-f u8 .twice f-ref (s-f ∷ [])) $ split ! $
           move ! (5 ∷ 1 ∷ []) $ group ! 2 $ use1 W (raw ((Changer 𝓤 H A at-mem run) .pre (to-changer r))) (asked-changer r r-is) $
@@ -226,7 +226,7 @@ module _ {M : Type 1} (𝓤 : URA M) (H : Heap 𝓤) (A : Atoms 𝓤) (W : Given
           keep ! (3 ∷ 4 ∷ 5 ∷ 2 ∷ 0 ∷ 6 ∷ 7 ∷ 8 ∷ 9 ∷ 10 ∷ 11 ∷ 12 ∷ 13 ∷ 14 ∷ 15 ∷ 16 ∷ 17 ∷ 18 ∷ 19 ∷ 20 ∷ 21 ∷ []) $ carrying x (change-is x _ is) (ap (changed h) d ∙ e))))))
 
       -- the record is copied out, and the frame's ruling is had
-      ruling : Sq W (‵ Rec ∷ ‵ (flft κ q) ∷ ‵ Bytes ∷ ‵ (flft κ-f q-f) ∷ ‵ (froom Answer-row′.mir l0 0) ∷ ‵ (fat fullShare (tyRef (named 0) mut rec-ty) l1 0 (vptr b o)) ∷ ‵ (fat fullShare tyBool l2 0 (vbool good)) ∷ ‵ (fat fullShare (sliceTy (tyRef (named 1) imm (tyInt w8))) l3 0 s-f) ∷ ‵ (froom Ruling-row′.mir l4 0) ∷ ‵ (froom out-ty l5 0) ∷ ‵ (froom T′.mir l6 0) ∷ ‵ (froom (tyRef erased mut rec-ty) l7 0) ∷ Dies) (runs C Λ En pieces.t-1 (atRet En Post))
+      ruling : Sq W (‵ Rec ∷ ‵ (flft κ q) ∷ ‵ Bytes ∷ ‵ (flft κ-f q-f) ∷ ‵ (froom Answered-row′.mir l0 0) ∷ ‵ (fat fullShare (tyRef (named 0) mut rec-ty) l1 0 (vptr b o)) ∷ ‵ (fat fullShare tyBool l2 0 (vbool good)) ∷ ‵ (fat fullShare (sliceTy (tyRef (named 1) imm (tyInt w8))) l3 0 s-f) ∷ ‵ (froom Ruling-row′.mir l4 0) ∷ ‵ (froom out-ty l5 0) ∷ ‵ (froom T′.mir l6 0) ∷ ‵ (froom (tyRef erased mut rec-ty) l7 0) ∷ Dies) (runs C Λ En pieces.t-1 (atRet En Post))
       ruling =
           fsplit3 ! $ drop ! $
           opens ! tt T.the-row {h = h} b o (λ vs. spelt ! T.the-row (Is T.the-row) (shows 𝓤 H A T.the-row) (LL.vals T.the-type T′.the-laws) (LL.tells T.the-type T′.the-laws) fullShare h vs b o $

@@ -20,7 +20,7 @@ use ghost.Atoms.{Atoms}
 use contract.Monad.{Fun, fact}
 use contract.Running.{givenOf, tables, tablesOf}
 use types.Kit.{Given, Item, Sq, runs, atRet, anyQ, ‵, raw, _⊛_, ⋆, some, later, _$_, _∵_, !, qed, by, move, keep, drop, group, use0, use1, split, join, pick, rewrite, fsplit, fsplit3, fjoin, fjoin3, feqL, feqI, suffices, frame, await, done}
-use types.Run.{look, look-raw, init, store-raw, forget, stop, hop, fld, from, load, addr, of-opd, and-then, no-more, assigns, assigns-last, bin, lit, first, switches-on, exec, land, land-last, returns, enter, alloc1, alloc0, params1, pass1, pass0, free1, free0}
+use types.Run.{look, look-raw, init, store-raw, forget, stop, hop, fld, from, load, addr, of-opd, and-then, no-more, assigns, bin, lit, first, switches-on, exec, land, land-last, returns, enter, alloc1, alloc0, params1, pass1, pass0, free1, free0}
 use types.Part.{agg, whole, sub, look-in}
 use types.Match.{vrt, look-tag, in-variant}
 use types.SemTy.{Body}
@@ -50,10 +50,9 @@ use Rattle.controller.specs.declared.Done.{Done}
 use Rattle.controller.specs.declared.Call.the-variants.{Reset, Read, Write, Sync, SyncDue, Slot, Frame, Fault, Timeout}
 use Rattle.controller.specs.Session.{stepOf}
 use Rattle.controller.specs.Carry.{resetState}
-use Rattle.controller.specs.Calls.{doneOf, stepFor, roomFor}
+use Rattle.controller.specs.Calls.{doneOf, answerIn, accepted, answeredOf, stepFor, roomFor}
 use Rattle.controller.specs.Code.{changed}
 use Rattle.controller.specs.CodeLaws.{reset-step}
-use Rattle.rules.specs.declared.Answer.the-variants.{Ok}
 use Prim.Native.Nat.{_+_}
 use mir.Syntax.{tyPtr, op2, unsigned, mul, offset, int as intᴹ}
 use denote.Index.{place-is}
@@ -90,9 +89,9 @@ use Rattle.rules.proofs.SyncKind.Laws as Sync-row′
 use Rattle.rules.specs.declared.Fault.{Fault as FaultKind}
 use Rattle.rules.proofs.Fault as Fault-row
 use Rattle.rules.proofs.Fault.Laws as Fault-row′
-use Rattle.rules.specs.declared.Answer.{Answer}
-use Rattle.rules.proofs.Answer as Answer-row
-use Rattle.rules.proofs.Answer.Laws as Answer-row′
+use Rattle.controller.specs.declared.Answered.{Answered}
+use Rattle.controller.proofs.Answered as Answered-row
+use Rattle.controller.proofs.Answered.Laws as Answered-row′
 use Rattle.controller.proofs.Controller.after_reset as resets
 use Rattle.controller.proofs.Controller.after_reset.Symbol as resets-def
 use Rattle.controller.proofs.Controller.after_reset.Symbol.{name as #resets}
@@ -129,6 +128,10 @@ use Rattle.controller.proofs.events.timeout as timeouts
 use Rattle.controller.proofs.events.timeout.Symbol as timeouts-def
 use Rattle.controller.proofs.events.timeout.Symbol.{name as #timeouts}
 use Rattle.controller.proofs.events.timeout.Met as timeouts-thm
+use Rattle.controller.proofs.changes.accepted as accepts
+use Rattle.controller.proofs.changes.accepted.Symbol as accepts-def
+use Rattle.controller.proofs.changes.accepted.Symbol.{name as #accepts}
+use Rattle.controller.proofs.changes.accepted.Met as accepts-thm
 use Rattle.controller.proofs.events.row_of as rows
 use Rattle.controller.proofs.events.row_of.Symbol as rows-def
 use Rattle.controller.proofs.events.row_of.Symbol.{name as #rows}
@@ -185,6 +188,9 @@ Faults 𝓤 H A mem run = tripleOf 𝓤 H A faults.signature (faults.spec 𝓤 H
 abbrev Timeouts : {M : Type 1} (𝓤 : URA M) (H : Heap 𝓤) (A : Atoms 𝓤) (mem : Memory → SProp 𝓤) (run : Routine → Fun 𝓤) → Contract 𝓤
 Timeouts 𝓤 H A mem run = tripleOf 𝓤 H A timeouts.signature (timeouts.spec 𝓤 H A mem run)
 
+abbrev Accepts : {M : Type 1} (𝓤 : URA M) (H : Heap 𝓤) (A : Atoms 𝓤) (mem : Memory → SProp 𝓤) (run : Routine → Fun 𝓤) → Contract 𝓤
+Accepts 𝓤 H A mem run = tripleOf 𝓤 H A accepts.signature (accepts.spec 𝓤 H A mem run)
+
 abbrev Rows : {M : Type 1} (𝓤 : URA M) (H : Heap 𝓤) (A : Atoms 𝓤) (mem : Memory → SProp 𝓤) (run : Routine → Fun 𝓤) → Contract 𝓤
 Rows 𝓤 H A mem run = tripleOf 𝓤 H A rows.signature (rows.spec 𝓤 H A mem run)
 
@@ -199,7 +205,7 @@ Carries 𝓤 H A mem run = tripleOf 𝓤 H A carries.signature (carries.spec �
 
 -- the type of `Change`, with its fields' types by name, so that a field's type is found with nothing computed
 abbrev out-ty : Ty
-out-ty = tyStruct (S.struct .name) (tcons Control-row′.mir (tcons (tyInt w8) (tcons (tyArray (tyInt w8) 14) (tcons Answer-row′.mir tnil))))
+out-ty = tyStruct (S.struct .name) (tcons Control-row′.mir (tcons (tyInt w8) (tcons (tyArray (tyInt w8) 14) (tcons Answered-row′.mir tnil))))
 
 abbrev rec-ty : Ty
 rec-ty = pointee (T.the-row .written)
@@ -218,11 +224,8 @@ change-is x vs g = LL.owes S.the-type S′.the-laws x (LL.owed S.the-type S′.t
 ruling-is : (r : Ruling) (vs : List Val) → Is Ruling-row.the-row r vs → Is Ruling-row.the-row r (LL.val Ruling-row.the-type Ruling-row′.the-laws r ∷ [])
 ruling-is r vs g = LL.owes Ruling-row.the-type Ruling-row′.the-laws r (LL.owed Ruling-row.the-type Ruling-row′.the-laws r vs g)
 
-answer-is : (x : Answer) (vs : List Val) → Is Answer-row.the-row x vs → Is Answer-row.the-row x (EL.val Answer-row.the-type Answer-row′.the-laws x ∷ [])
-answer-is x vs g = subst (Is Answer-row.the-row x) (EL.tells Answer-row.the-type Answer-row′.the-laws x vs g) g
-
-ok-is : Is Answer-row.the-row Ok (EL.val Answer-row.the-type Answer-row′.the-laws Ok ∷ [])
-ok-is = EL.owes Answer-row.the-type Answer-row′.the-laws Ok tt
+answer-is : (x : Answered) (vs : List Val) → Is Answered-row.the-row x vs → Is Answered-row.the-row x (LL.val Answered-row.the-type Answered-row′.the-laws x ∷ [])
+answer-is x vs g = subst (Is Answered-row.the-row x) (LL.tells Answered-row.the-type Answered-row′.the-laws x vs g) g
 
 -- the code of the arms: a field of the call is taken, the record is copied, a change is carried out
 abbrev taken : ℕ → ℕ → ℕ → Bodyᴹ → Bodyᴹ
@@ -235,7 +238,7 @@ abbrev carrying : ℕ → ℕ → Bodyᴹ
 carrying r k = seqᴹ (assignᴹ (placeᴹ r []) (addrOf (placeᴹ 1 (deref T′.mir ∷ [])))) (callᴹ #carries (copyᴹ (placeᴹ r []) ∷ copyᴹ (placeᴹ k []) ∷ []) (placeᴹ 23 []))
 
 abbrev code-resetting : Bodyᴹ
-code-resetting = seqᴹ (assignᴹ (placeᴹ 1 (deref T′.mir ∷ [])) (rvOpd (copyᴹ (placeᴹ 24 [])))) (assignᴹ (placeᴹ 23 []) (aggregate (intᴹ w8 0 ∷ [])))
+code-resetting = seqᴹ (assignᴹ (placeᴹ 1 (deref T′.mir ∷ [])) (rvOpd (copyᴹ (placeᴹ 24 [])))) (callᴹ #accepts [] (placeᴹ 23 []))
 
 abbrev code-reset : Bodyᴹ
 code-reset = seqᴹ (callᴹ #resets [] (placeᴹ 24 [])) code-resetting
@@ -341,8 +344,8 @@ module _ {M : Type 1} (𝓤 : URA M) (H : Heap 𝓤) (A : Atoms 𝓤) (W : Given
   abbrev next : Step → Controller
   next s = doneOf (stepOf h s) .next
 
-  abbrev answer : Step → Answer
-  answer s = doneOf (stepOf h s) .answer
+  abbrev answer : Step → Answered
+  answer s = answeredOf (stepOf h s)
 
   module _ (call : Call) where
     abbrev a : Arg
@@ -354,19 +357,19 @@ module _ {M : Type 1} (𝓤 : URA M) (H : Heap 𝓤) (A : Atoms 𝓤) (W : Given
     abbrev Post : Val → SProp 𝓤
     Post = walkOf 𝓤 H A this.ended stayed (this.clauses 𝓤 H A at-mem run) .post (((κ, (κ-f, (κ-room, tt))), (q, (q-f, (q-room, tt))), tt, a, at), tt)
 
-    abbrev Says : Controller → Answer → List ℕ → Type 0
+    abbrev Says : Controller → Answered → List ℕ → Type 0
     Says c m zs = (c ≡ next (stepFor call f room)) × (m ≡ answer (stepFor call f room)) × (zs ≡ roomFor h call room)
 
     -- what is had at exit
     abbrev Had : Controller → List ℕ → List (Item 𝓤)
     Had c zs = ‵ (fres γ (T.the-row .coded .code c)) ∷ ‵ (flft κ q) ∷ ‵ Bytes ∷ ‵ (flft κ-f q-f) ∷ ‵ (flft κ-room q-room) ∷ ‵ (finally u8 γ-room zs) ∷ []
 
-    exits : Is Call-row.the-row call (EL.val Call-row.the-type Call-row′.the-laws call ∷ []) → (c : Controller) (m : Answer) (zs : List ℕ) → Says c m zs → Is Answer-row.the-row m (EL.val Answer-row.the-type Answer-row′.the-laws m ∷ []) → length zs ≡ length room → ent 𝓤 (⋆ 𝓤 H A (Had c zs)) (Post (EL.val Answer-row.the-type Answer-row′.the-laws m))
+    exits : Is Call-row.the-row call (EL.val Call-row.the-type Call-row′.the-laws call ∷ []) → (c : Controller) (m : Answered) (zs : List ℕ) → Says c m zs → Is Answered-row.the-row m (LL.val Answered-row.the-type Answered-row′.the-laws m ∷ []) → length zs ≡ length room → ent 𝓤 (⋆ 𝓤 H A (Had c zs)) (Post (LL.val Answered-row.the-type Answered-row′.the-laws m))
     exits call-is c m zs e g l =
         qed W (Had c zs) ∵
-        suffices ! _ (ends-at 𝓤 H A this.ended stayed (this.clauses 𝓤 H A at-mem run) W (((κ, (κ-f, (κ-room, tt))), (q, (q-f, (q-room, tt))), tt, a, at), tt) (EL.val Answer-row.the-type Answer-row′.the-laws m) m (c, (tt, (tt, (zs, tt)))) (tt, (tt, (tt, (l, tt))))) $ says ! e $
+        suffices ! _ (ends-at 𝓤 H A this.ended stayed (this.clauses 𝓤 H A at-mem run) W (((κ, (κ-f, (κ-room, tt))), (q, (q-f, (q-room, tt))), tt, a, at), tt) (LL.val Answered-row.the-type Answered-row′.the-laws m) m (c, (tt, (tt, (zs, tt)))) (tt, (tt, (tt, (l, tt))))) $ says ! e $
         nothing ! $ move ! (5 ∷ 0 ∷ []) $ join ! $ move ! (4 ∷ 0 ∷ []) $ join ! $ move ! (2 ∷ 0 ∷ []) $ join ! $ frame ! $
-        nothing ! $ move ! (3 ∷ 0 ∷ []) $ fjoin ! $ move ! (2 ∷ 0 ∷ []) $ fjoin ! $ owned ! Call-row.the-row (Is Call-row.the-row) (EL.makes Call-row.the-type Call-row′.the-plain 𝓤 H A) call _ call-is $ fjoin ! $ move ! (1 ∷ 0 ∷ []) $ fjoin ! $ frame ! $ owned ! Answer-row.the-row (Is Answer-row.the-row) (EL.makes Answer-row.the-type Answer-row′.the-plain 𝓤 H A) m _ g $ done !
+        nothing ! $ move ! (3 ∷ 0 ∷ []) $ fjoin ! $ move ! (2 ∷ 0 ∷ []) $ fjoin ! $ owned ! Call-row.the-row (Is Call-row.the-row) (EL.makes Call-row.the-type Call-row′.the-plain 𝓤 H A) call _ call-is $ fjoin ! $ move ! (1 ∷ 0 ∷ []) $ fjoin ! $ frame ! $ owned ! Answered-row.the-row (Is Answered-row.the-row) (LL.makes Answered-row.the-type Answered-row′.the-plain 𝓤 H A) m _ g $ done !
 
   -- what the triples bind outside, and what they ask
   abbrev to-reset : (Resets 𝓤 H A at-mem run) .Ghost
@@ -374,6 +377,12 @@ module _ {M : Type 1} (𝓤 : URA M) (H : Heap 𝓤) (A : Atoms 𝓤) (W : Given
 
   asked-reset : ent 𝓤 (emp 𝓤) ((Resets 𝓤 H A at-mem run) .pre to-reset)
   asked-reset = qed W [] ∵ nothing ! $ nothing ! $ move ! (1 ∷ 0 ∷ []) $ join ! $ nothing ! $ move ! (1 ∷ 0 ∷ []) $ join ! $ done !
+
+  abbrev to-accept : (Accepts 𝓤 H A at-mem run) .Ghost
+  to-accept = ((tt, tt, tt, tt, tt), tt)
+
+  asked-accept : ent 𝓤 (emp 𝓤) ((Accepts 𝓤 H A at-mem run) .pre to-accept)
+  asked-accept = qed W [] ∵ nothing ! $ nothing ! $ move ! (1 ∷ 0 ∷ []) $ join ! $ nothing ! $ move ! (1 ∷ 0 ∷ []) $ join ! $ done !
 
   abbrev args-read : ℕ → Contents → Control × (ℕ × (Contents × (Unit {0})))
   args-read n k = (h .control, (n, (k, tt)))
@@ -477,14 +486,14 @@ module _ {M : Type 1} (𝓤 : URA M) (H : Heap 𝓤) (A : Atoms 𝓤) (W : Given
   asked-carry : (x : Change) → Is S.the-row x (LL.val S.the-type S′.the-laws x ∷ []) → ent 𝓤 (⋆ 𝓤 H A (‵ (fobs γ (T.the-row .coded .code h)) ∷ ‵ (fbor κ (Body (mem T.the-row) b o γ)) ∷ ‵ (flft κ q) ∷ [])) ((Carries 𝓤 H A at-mem run) .pre (to-carry x))
   asked-carry x x-is = qed W (‵ (fobs γ (T.the-row .coded .code h)) ∷ ‵ (fbor κ (Body (mem T.the-row) b o γ)) ∷ ‵ (flft κ q) ∷ []) ∵ nothing ! $ move ! (3 ∷ 0 ∷ []) $ join ! $ nothing ! $ owned ! S.the-row (Is S.the-row) (LL.makes S.the-type S′.the-plain 𝓤 H A) x _ x-is $ fjoin ! $ move ! (2 ∷ 3 ∷ 0 ∷ []) $ feqI ! (List Val) (vptr b o ∷ []) (vptr b o ∷ []) refl $ fjoin3 ! $ fjoin ! $ move ! (1 ∷ 0 ∷ []) $ join ! $ nothing ! $ move ! (1 ∷ 0 ∷ []) $ join ! $ done !
 
-  module _ (C : Calls 𝓤 H) (Λ : Loops 𝓤 H) (fm : FmC 𝓤 H (W .laws) C) (known-resets : Triple 𝓤 (C #resets) (Resets 𝓤 H A at-mem run)) (known-reads : Triple 𝓤 (C #reads) (Reads 𝓤 H A at-mem run)) (known-writes : Triple 𝓤 (C #writes) (Writes 𝓤 H A at-mem run)) (known-syncs : Triple 𝓤 (C #syncs) (Syncs 𝓤 H A at-mem run)) (known-syncdues : Triple 𝓤 (C #syncdues) (Syncdues 𝓤 H A at-mem run)) (known-slots : Triple 𝓤 (C #slots) (Slots 𝓤 H A at-mem run)) (known-frames : Triple 𝓤 (C #frames) (Frames 𝓤 H A at-mem run)) (known-faults : Triple 𝓤 (C #faults) (Faults 𝓤 H A at-mem run)) (known-timeouts : Triple 𝓤 (C #timeouts) (Timeouts 𝓤 H A at-mem run)) (known-rows : Triple 𝓤 (C #rows) (Rows 𝓤 H A at-mem run)) (known-windows : Triple 𝓤 (C #windows) (Windows 𝓤 H A at-mem run)) (known-filled : Triple 𝓤 (C #filled) (Filled 𝓤 H A at-mem run)) (known-carries : Triple 𝓤 (C #carries) (Carries 𝓤 H A at-mem run)) where
+  module _ (C : Calls 𝓤 H) (Λ : Loops 𝓤 H) (fm : FmC 𝓤 H (W .laws) C) (known-resets : Triple 𝓤 (C #resets) (Resets 𝓤 H A at-mem run)) (known-reads : Triple 𝓤 (C #reads) (Reads 𝓤 H A at-mem run)) (known-writes : Triple 𝓤 (C #writes) (Writes 𝓤 H A at-mem run)) (known-syncs : Triple 𝓤 (C #syncs) (Syncs 𝓤 H A at-mem run)) (known-syncdues : Triple 𝓤 (C #syncdues) (Syncdues 𝓤 H A at-mem run)) (known-slots : Triple 𝓤 (C #slots) (Slots 𝓤 H A at-mem run)) (known-frames : Triple 𝓤 (C #frames) (Frames 𝓤 H A at-mem run)) (known-faults : Triple 𝓤 (C #faults) (Faults 𝓤 H A at-mem run)) (known-timeouts : Triple 𝓤 (C #timeouts) (Timeouts 𝓤 H A at-mem run)) (known-accepts : Triple 𝓤 (C #accepts) (Accepts 𝓤 H A at-mem run)) (known-rows : Triple 𝓤 (C #rows) (Rows 𝓤 H A at-mem run)) (known-windows : Triple 𝓤 (C #windows) (Windows 𝓤 H A at-mem run)) (known-filled : Triple 𝓤 (C #filled) (Filled 𝓤 H A at-mem run)) (known-carries : Triple 𝓤 (C #carries) (Carries 𝓤 H A at-mem run)) where
     module _ (l0 l1 l2 l3 l4 l5 l6 l7 l8 l9 l10 l11 l12 l13 l14 l15 l16 l17 l18 l19 l20 l21 l22 l23 l24 l25 l26 l27 l28 l29 l30 l31 l32 l33 l34 l35 l36 l37 l38 l39 l40 l41 l42 l43 l44 l45 l46 : ℕ) where
       -- the locals, and what frees them
       abbrev En : Env 𝓤 H
-      En = (Answer-row′.mir, l0) ∷ (tyRef (named 0) mut rec-ty, l1) ∷ (Call-row′.mir, l2) ∷ (sliceTy (tyRef (named 1) imm (tyInt w8)), l3) ∷ (sliceTy (tyRef (named 2) mut (tyInt w8)), l4) ∷ (tyInt w8, l5) ∷ (Control-row′.mir, l6) ∷ (tyInt w64, l7) ∷ (Row′.mir, l8) ∷ (tyInt w8, l9) ∷ (tyInt w8, l10) ∷ (Sync-row′.mir, l11) ∷ (out-ty, l12) ∷ (out-ty, l13) ∷ (tyInt w8, l14) ∷ (Ruling-row′.mir, l15) ∷ (tyInt w64, l16) ∷ (Row′.mir, l17) ∷ (out-ty, l18) ∷ (tyBool, l19) ∷ (Fault-row′.mir, l20) ∷ (out-ty, l21) ∷ (out-ty, l22) ∷ (Answer-row′.mir, l23) ∷ (T′.mir, l24) ∷ (tyInt w64, l25) ∷ (tyPtr, l26) ∷ (tyPtr, l27) ∷ (Row′.mir, l28) ∷ (tyRef erased mut rec-ty, l29) ∷ (T′.mir, l30) ∷ (tyRef erased mut rec-ty, l31) ∷ (T′.mir, l32) ∷ (tyRef erased mut rec-ty, l33) ∷ (T′.mir, l34) ∷ (tyInt w64, l35) ∷ (tyPtr, l36) ∷ (tyPtr, l37) ∷ (Row′.mir, l38) ∷ (tyRef erased mut (tyInt w8), l39) ∷ (sliceTy (tyRef erased mut (tyInt w8)), l40) ∷ (tyRef erased mut rec-ty, l41) ∷ (tyRef erased mut rec-ty, l42) ∷ (T′.mir, l43) ∷ (tyRef erased mut rec-ty, l44) ∷ (T′.mir, l45) ∷ (tyRef erased mut rec-ty, l46) ∷ []
+      En = (Answered-row′.mir, l0) ∷ (tyRef (named 0) mut rec-ty, l1) ∷ (Call-row′.mir, l2) ∷ (sliceTy (tyRef (named 1) imm (tyInt w8)), l3) ∷ (sliceTy (tyRef (named 2) mut (tyInt w8)), l4) ∷ (tyInt w8, l5) ∷ (Control-row′.mir, l6) ∷ (tyInt w64, l7) ∷ (Row′.mir, l8) ∷ (tyInt w8, l9) ∷ (tyInt w8, l10) ∷ (Sync-row′.mir, l11) ∷ (out-ty, l12) ∷ (out-ty, l13) ∷ (tyInt w8, l14) ∷ (Ruling-row′.mir, l15) ∷ (tyInt w64, l16) ∷ (Row′.mir, l17) ∷ (out-ty, l18) ∷ (tyBool, l19) ∷ (Fault-row′.mir, l20) ∷ (out-ty, l21) ∷ (out-ty, l22) ∷ (Answered-row′.mir, l23) ∷ (T′.mir, l24) ∷ (tyInt w64, l25) ∷ (tyPtr, l26) ∷ (tyPtr, l27) ∷ (Row′.mir, l28) ∷ (tyRef erased mut rec-ty, l29) ∷ (T′.mir, l30) ∷ (tyRef erased mut rec-ty, l31) ∷ (T′.mir, l32) ∷ (tyRef erased mut rec-ty, l33) ∷ (T′.mir, l34) ∷ (tyInt w64, l35) ∷ (tyPtr, l36) ∷ (tyPtr, l37) ∷ (Row′.mir, l38) ∷ (tyRef erased mut (tyInt w8), l39) ∷ (sliceTy (tyRef erased mut (tyInt w8)), l40) ∷ (tyRef erased mut rec-ty, l41) ∷ (tyRef erased mut rec-ty, l42) ∷ (T′.mir, l43) ∷ (tyRef erased mut rec-ty, l44) ∷ (T′.mir, l45) ∷ (tyRef erased mut rec-ty, l46) ∷ []
 
       abbrev Dies : List (Item 𝓤)
-      Dies = ‵ (fdies Answer-row′.mir l0) ∷ ‵ (fdies (tyRef (named 0) mut rec-ty) l1) ∷ ‵ (fdies Call-row′.mir l2) ∷ ‵ (fdies (sliceTy (tyRef (named 1) imm (tyInt w8))) l3) ∷ ‵ (fdies (sliceTy (tyRef (named 2) mut (tyInt w8))) l4) ∷ ‵ (fdies (tyInt w8) l5) ∷ ‵ (fdies Control-row′.mir l6) ∷ ‵ (fdies (tyInt w64) l7) ∷ ‵ (fdies Row′.mir l8) ∷ ‵ (fdies (tyInt w8) l9) ∷ ‵ (fdies (tyInt w8) l10) ∷ ‵ (fdies Sync-row′.mir l11) ∷ ‵ (fdies out-ty l12) ∷ ‵ (fdies out-ty l13) ∷ ‵ (fdies (tyInt w8) l14) ∷ ‵ (fdies Ruling-row′.mir l15) ∷ ‵ (fdies (tyInt w64) l16) ∷ ‵ (fdies Row′.mir l17) ∷ ‵ (fdies out-ty l18) ∷ ‵ (fdies tyBool l19) ∷ ‵ (fdies Fault-row′.mir l20) ∷ ‵ (fdies out-ty l21) ∷ ‵ (fdies out-ty l22) ∷ ‵ (fdies Answer-row′.mir l23) ∷ ‵ (fdies T′.mir l24) ∷ ‵ (fdies (tyInt w64) l25) ∷ ‵ (fdies tyPtr l26) ∷ ‵ (fdies tyPtr l27) ∷ ‵ (fdies Row′.mir l28) ∷ ‵ (fdies (tyRef erased mut rec-ty) l29) ∷ ‵ (fdies T′.mir l30) ∷ ‵ (fdies (tyRef erased mut rec-ty) l31) ∷ ‵ (fdies T′.mir l32) ∷ ‵ (fdies (tyRef erased mut rec-ty) l33) ∷ ‵ (fdies T′.mir l34) ∷ ‵ (fdies (tyInt w64) l35) ∷ ‵ (fdies tyPtr l36) ∷ ‵ (fdies tyPtr l37) ∷ ‵ (fdies Row′.mir l38) ∷ ‵ (fdies (tyRef erased mut (tyInt w8)) l39) ∷ ‵ (fdies (sliceTy (tyRef erased mut (tyInt w8))) l40) ∷ ‵ (fdies (tyRef erased mut rec-ty) l41) ∷ ‵ (fdies (tyRef erased mut rec-ty) l42) ∷ ‵ (fdies T′.mir l43) ∷ ‵ (fdies (tyRef erased mut rec-ty) l44) ∷ ‵ (fdies T′.mir l45) ∷ ‵ (fdies (tyRef erased mut rec-ty) l46) ∷ []
+      Dies = ‵ (fdies Answered-row′.mir l0) ∷ ‵ (fdies (tyRef (named 0) mut rec-ty) l1) ∷ ‵ (fdies Call-row′.mir l2) ∷ ‵ (fdies (sliceTy (tyRef (named 1) imm (tyInt w8))) l3) ∷ ‵ (fdies (sliceTy (tyRef (named 2) mut (tyInt w8))) l4) ∷ ‵ (fdies (tyInt w8) l5) ∷ ‵ (fdies Control-row′.mir l6) ∷ ‵ (fdies (tyInt w64) l7) ∷ ‵ (fdies Row′.mir l8) ∷ ‵ (fdies (tyInt w8) l9) ∷ ‵ (fdies (tyInt w8) l10) ∷ ‵ (fdies Sync-row′.mir l11) ∷ ‵ (fdies out-ty l12) ∷ ‵ (fdies out-ty l13) ∷ ‵ (fdies (tyInt w8) l14) ∷ ‵ (fdies Ruling-row′.mir l15) ∷ ‵ (fdies (tyInt w64) l16) ∷ ‵ (fdies Row′.mir l17) ∷ ‵ (fdies out-ty l18) ∷ ‵ (fdies tyBool l19) ∷ ‵ (fdies Fault-row′.mir l20) ∷ ‵ (fdies out-ty l21) ∷ ‵ (fdies out-ty l22) ∷ ‵ (fdies Answered-row′.mir l23) ∷ ‵ (fdies T′.mir l24) ∷ ‵ (fdies (tyInt w64) l25) ∷ ‵ (fdies tyPtr l26) ∷ ‵ (fdies tyPtr l27) ∷ ‵ (fdies Row′.mir l28) ∷ ‵ (fdies (tyRef erased mut rec-ty) l29) ∷ ‵ (fdies T′.mir l30) ∷ ‵ (fdies (tyRef erased mut rec-ty) l31) ∷ ‵ (fdies T′.mir l32) ∷ ‵ (fdies (tyRef erased mut rec-ty) l33) ∷ ‵ (fdies T′.mir l34) ∷ ‵ (fdies (tyInt w64) l35) ∷ ‵ (fdies tyPtr l36) ∷ ‵ (fdies tyPtr l37) ∷ ‵ (fdies Row′.mir l38) ∷ ‵ (fdies (tyRef erased mut (tyInt w8)) l39) ∷ ‵ (fdies (sliceTy (tyRef erased mut (tyInt w8))) l40) ∷ ‵ (fdies (tyRef erased mut rec-ty) l41) ∷ ‵ (fdies (tyRef erased mut rec-ty) l42) ∷ ‵ (fdies T′.mir l43) ∷ ‵ (fdies (tyRef erased mut rec-ty) l44) ∷ ‵ (fdies T′.mir l45) ∷ ‵ (fdies (tyRef erased mut rec-ty) l46) ∷ []
 
       -- what is left once an arm has ended
       abbrev Next : Call → Out → SProp 𝓤
@@ -492,15 +501,15 @@ module _ {M : Type 1} (𝓤 : URA M) (H : Heap 𝓤) (A : Atoms 𝓤) (W : Given
 
       module _ (call : Call) (call-is : Is Call-row.the-row call (EL.val Call-row.the-type Call-row′.the-laws call ∷ [])) where
         -- the `return`
-        answered : {y1 y2 y3 y4 : Val} (c : Controller) (m : Answer) (zs : List ℕ) → Says call c m zs → Is Answer-row.the-row m (EL.val Answer-row.the-type Answer-row′.the-laws m ∷ []) → length zs ≡ length room → Sq W (‵ (fres γ (T.the-row .coded .code c)) ∷ ‵ (flft κ q) ∷ ‵ Bytes ∷ ‵ (flft κ-f q-f) ∷ ‵ (flft κ-room q-room) ∷ ‵ (finally u8 γ-room zs) ∷ ‵ (froom Answer-row′.mir l0 0) ∷ ‵ (fat fullShare (tyRef (named 0) mut rec-ty) l1 0 y1) ∷ ‵ (fat fullShare Call-row′.mir l2 0 y2) ∷ ‵ (fat fullShare (sliceTy (tyRef (named 1) imm (tyInt w8))) l3 0 y3) ∷ ‵ (fat fullShare (sliceTy (tyRef (named 2) mut (tyInt w8))) l4 0 y4) ∷ ‵ (froom (tyInt w8) l5 0) ∷ ‵ (froom Control-row′.mir l6 0) ∷ ‵ (froom (tyInt w64) l7 0) ∷ ‵ (froom Row′.mir l8 0) ∷ ‵ (froom (tyInt w8) l9 0) ∷ ‵ (froom (tyInt w8) l10 0) ∷ ‵ (froom Sync-row′.mir l11 0) ∷ ‵ (froom out-ty l12 0) ∷ ‵ (froom out-ty l13 0) ∷ ‵ (froom (tyInt w8) l14 0) ∷ ‵ (froom Ruling-row′.mir l15 0) ∷ ‵ (froom (tyInt w64) l16 0) ∷ ‵ (froom Row′.mir l17 0) ∷ ‵ (froom out-ty l18 0) ∷ ‵ (froom tyBool l19 0) ∷ ‵ (froom Fault-row′.mir l20 0) ∷ ‵ (froom out-ty l21 0) ∷ ‵ (froom out-ty l22 0) ∷ ‵ (fat fullShare Answer-row′.mir l23 0 (EL.val Answer-row.the-type Answer-row′.the-laws m)) ∷ ‵ (froom T′.mir l24 0) ∷ ‵ (froom (tyInt w64) l25 0) ∷ ‵ (froom tyPtr l26 0) ∷ ‵ (froom tyPtr l27 0) ∷ ‵ (froom Row′.mir l28 0) ∷ ‵ (froom (tyRef erased mut rec-ty) l29 0) ∷ ‵ (froom T′.mir l30 0) ∷ ‵ (froom (tyRef erased mut rec-ty) l31 0) ∷ ‵ (froom T′.mir l32 0) ∷ ‵ (froom (tyRef erased mut rec-ty) l33 0) ∷ ‵ (froom T′.mir l34 0) ∷ ‵ (froom (tyInt w64) l35 0) ∷ ‵ (froom tyPtr l36 0) ∷ ‵ (froom tyPtr l37 0) ∷ ‵ (froom Row′.mir l38 0) ∷ ‵ (froom (tyRef erased mut (tyInt w8)) l39 0) ∷ ‵ (froom (sliceTy (tyRef erased mut (tyInt w8))) l40 0) ∷ ‵ (froom (tyRef erased mut rec-ty) l41 0) ∷ ‵ (froom (tyRef erased mut rec-ty) l42 0) ∷ ‵ (froom T′.mir l43 0) ∷ ‵ (froom (tyRef erased mut rec-ty) l44 0) ∷ ‵ (froom T′.mir l45 0) ∷ ‵ (froom (tyRef erased mut rec-ty) l46 0) ∷ Dies) (runs C Λ En pieces.t-2 (atRet En (Post call)))
+        answered : {y1 y2 y3 y4 : Val} (c : Controller) (m : Answered) (zs : List ℕ) → Says call c m zs → Is Answered-row.the-row m (LL.val Answered-row.the-type Answered-row′.the-laws m ∷ []) → length zs ≡ length room → Sq W (‵ (fres γ (T.the-row .coded .code c)) ∷ ‵ (flft κ q) ∷ ‵ Bytes ∷ ‵ (flft κ-f q-f) ∷ ‵ (flft κ-room q-room) ∷ ‵ (finally u8 γ-room zs) ∷ ‵ (froom Answered-row′.mir l0 0) ∷ ‵ (fat fullShare (tyRef (named 0) mut rec-ty) l1 0 y1) ∷ ‵ (fat fullShare Call-row′.mir l2 0 y2) ∷ ‵ (fat fullShare (sliceTy (tyRef (named 1) imm (tyInt w8))) l3 0 y3) ∷ ‵ (fat fullShare (sliceTy (tyRef (named 2) mut (tyInt w8))) l4 0 y4) ∷ ‵ (froom (tyInt w8) l5 0) ∷ ‵ (froom Control-row′.mir l6 0) ∷ ‵ (froom (tyInt w64) l7 0) ∷ ‵ (froom Row′.mir l8 0) ∷ ‵ (froom (tyInt w8) l9 0) ∷ ‵ (froom (tyInt w8) l10 0) ∷ ‵ (froom Sync-row′.mir l11 0) ∷ ‵ (froom out-ty l12 0) ∷ ‵ (froom out-ty l13 0) ∷ ‵ (froom (tyInt w8) l14 0) ∷ ‵ (froom Ruling-row′.mir l15 0) ∷ ‵ (froom (tyInt w64) l16 0) ∷ ‵ (froom Row′.mir l17 0) ∷ ‵ (froom out-ty l18 0) ∷ ‵ (froom tyBool l19 0) ∷ ‵ (froom Fault-row′.mir l20 0) ∷ ‵ (froom out-ty l21 0) ∷ ‵ (froom out-ty l22 0) ∷ ‵ (fat fullShare Answered-row′.mir l23 0 (LL.val Answered-row.the-type Answered-row′.the-laws m)) ∷ ‵ (froom T′.mir l24 0) ∷ ‵ (froom (tyInt w64) l25 0) ∷ ‵ (froom tyPtr l26 0) ∷ ‵ (froom tyPtr l27 0) ∷ ‵ (froom Row′.mir l28 0) ∷ ‵ (froom (tyRef erased mut rec-ty) l29 0) ∷ ‵ (froom T′.mir l30 0) ∷ ‵ (froom (tyRef erased mut rec-ty) l31 0) ∷ ‵ (froom T′.mir l32 0) ∷ ‵ (froom (tyRef erased mut rec-ty) l33 0) ∷ ‵ (froom T′.mir l34 0) ∷ ‵ (froom (tyInt w64) l35 0) ∷ ‵ (froom tyPtr l36 0) ∷ ‵ (froom tyPtr l37 0) ∷ ‵ (froom Row′.mir l38 0) ∷ ‵ (froom (tyRef erased mut (tyInt w8)) l39 0) ∷ ‵ (froom (sliceTy (tyRef erased mut (tyInt w8))) l40 0) ∷ ‵ (froom (tyRef erased mut rec-ty) l41 0) ∷ ‵ (froom (tyRef erased mut rec-ty) l42 0) ∷ ‵ (froom T′.mir l43 0) ∷ ‵ (froom (tyRef erased mut rec-ty) l44 0) ∷ ‵ (froom T′.mir l45 0) ∷ ‵ (froom (tyRef erased mut rec-ty) l46 0) ∷ Dies) (runs C Λ En pieces.t-2 (atRet En (Post call)))
         answered c m zs e g l =
-            assigns ! (of-opd ! (load ! (from ! (stop !)) (look ! 29 refl))) (from ! (stop !)) (init ! 6 refl (EL.lawful Answer-row.the-type Answer-row′.the-laws 𝓤 H A W tt .typed m _ g .0)) $
+            assigns ! (of-opd ! (load ! (from ! (stop !)) (look ! 29 refl))) (from ! (stop !)) (init ! 6 refl (LL.lawful Answered-row.the-type Answered-row′.the-laws 𝓤 H A W .typed m _ g .0)) $
             returns ! (look ! 6 refl) $ forget ! 6 refl $ forget ! 7 refl $ forget ! 8 refl $ forget ! 9 refl $ forget ! 10 refl $ forget ! 29 refl $
             move ! (6 ∷ 53 ∷ []) $ free1 ! $ move ! (6 ∷ 52 ∷ []) $ free1 ! $ move ! (6 ∷ 51 ∷ []) $ free1 ! $ move ! (6 ∷ 50 ∷ []) $ free1 ! $ move ! (6 ∷ 49 ∷ []) $ free1 ! $ move ! (6 ∷ 48 ∷ []) $ free1 ! $ move ! (6 ∷ 47 ∷ []) $ free1 ! $ move ! (6 ∷ 46 ∷ []) $ free1 ! $ move ! (6 ∷ 45 ∷ []) $ free1 ! $ move ! (6 ∷ 44 ∷ []) $ free1 ! $ move ! (6 ∷ 43 ∷ []) $ free1 ! $ move ! (6 ∷ 42 ∷ []) $ free1 ! $ move ! (6 ∷ 41 ∷ []) $ free1 ! $ move ! (6 ∷ 40 ∷ []) $ free1 ! $ move ! (6 ∷ 39 ∷ []) $ free1 ! $ move ! (6 ∷ 38 ∷ []) $ free1 ! $ move ! (6 ∷ 37 ∷ []) $ free1 ! $ move ! (6 ∷ 36 ∷ []) $ free1 ! $ move ! (6 ∷ 35 ∷ []) $ free1 ! $ move ! (6 ∷ 34 ∷ []) $ free1 ! $ move ! (6 ∷ 33 ∷ []) $ free1 ! $ move ! (6 ∷ 32 ∷ []) $ free1 ! $ move ! (6 ∷ 31 ∷ []) $ free1 ! $ move ! (6 ∷ 30 ∷ []) $ free1 ! $ move ! (6 ∷ 29 ∷ []) $ free1 ! $ move ! (6 ∷ 28 ∷ []) $ free1 ! $ move ! (6 ∷ 27 ∷ []) $ free1 ! $ move ! (6 ∷ 26 ∷ []) $ free1 ! $ move ! (6 ∷ 25 ∷ []) $ free1 ! $ move ! (6 ∷ 24 ∷ []) $ free1 ! $ move ! (6 ∷ 23 ∷ []) $ free1 ! $ move ! (6 ∷ 22 ∷ []) $ free1 ! $ move ! (6 ∷ 21 ∷ []) $ free1 ! $ move ! (6 ∷ 20 ∷ []) $ free1 ! $ move ! (6 ∷ 19 ∷ []) $ free1 ! $ move ! (6 ∷ 18 ∷ []) $ free1 ! $ move ! (6 ∷ 17 ∷ []) $ free1 ! $ move ! (6 ∷ 16 ∷ []) $ free1 ! $ move ! (6 ∷ 15 ∷ []) $ free1 ! $ move ! (6 ∷ 14 ∷ []) $ free1 ! $ move ! (6 ∷ 13 ∷ []) $ free1 ! $ move ! (6 ∷ 12 ∷ []) $ free1 ! $ move ! (6 ∷ 11 ∷ []) $ free1 ! $ move ! (6 ∷ 10 ∷ []) $ free1 ! $ move ! (6 ∷ 9 ∷ []) $ free1 ! $ move ! (6 ∷ 8 ∷ []) $ free1 ! $ move ! (6 ∷ 7 ∷ []) $ free1 ! $ free0 ! $
             by ! (exits call call-is c m zs e g l)
 
         -- the record after reset is stored
-        resetting : {y2 : Val} → reset ≡ stepFor call f room → room ≡ roomFor h call room → (c : Controller) → Is T.the-row c (LL.val T.the-type T′.the-laws c ∷ []) → c ≡ resetState → Sq W (‵ Rec ∷ ‵ (flft κ q) ∷ ‵ Bytes ∷ ‵ (flft κ-f q-f) ∷ ‵ (flft κ-room q-room) ∷ ‵ (finally u8 γ-room room) ∷ ‵ (froom Answer-row′.mir l0 0) ∷ ‵ (fat fullShare (tyRef (named 0) mut rec-ty) l1 0 (vptr b o)) ∷ ‵ (fat fullShare Call-row′.mir l2 0 y2) ∷ ‵ (fat fullShare (sliceTy (tyRef (named 1) imm (tyInt w8))) l3 0 s-f) ∷ ‵ (fat fullShare (sliceTy (tyRef (named 2) mut (tyInt w8))) l4 0 s-room) ∷ ‵ (froom (tyInt w8) l5 0) ∷ ‵ (froom Control-row′.mir l6 0) ∷ ‵ (froom (tyInt w64) l7 0) ∷ ‵ (froom Row′.mir l8 0) ∷ ‵ (froom (tyInt w8) l9 0) ∷ ‵ (froom (tyInt w8) l10 0) ∷ ‵ (froom Sync-row′.mir l11 0) ∷ ‵ (froom out-ty l12 0) ∷ ‵ (froom out-ty l13 0) ∷ ‵ (froom (tyInt w8) l14 0) ∷ ‵ (froom Ruling-row′.mir l15 0) ∷ ‵ (froom (tyInt w64) l16 0) ∷ ‵ (froom Row′.mir l17 0) ∷ ‵ (froom out-ty l18 0) ∷ ‵ (froom tyBool l19 0) ∷ ‵ (froom Fault-row′.mir l20 0) ∷ ‵ (froom out-ty l21 0) ∷ ‵ (froom out-ty l22 0) ∷ ‵ (froom Answer-row′.mir l23 0) ∷ ‵ (fat fullShare T′.mir l24 0 (LL.val T.the-type T′.the-laws c)) ∷ ‵ (froom (tyInt w64) l25 0) ∷ ‵ (froom tyPtr l26 0) ∷ ‵ (froom tyPtr l27 0) ∷ ‵ (froom Row′.mir l28 0) ∷ ‵ (froom (tyRef erased mut rec-ty) l29 0) ∷ ‵ (froom T′.mir l30 0) ∷ ‵ (froom (tyRef erased mut rec-ty) l31 0) ∷ ‵ (froom T′.mir l32 0) ∷ ‵ (froom (tyRef erased mut rec-ty) l33 0) ∷ ‵ (froom T′.mir l34 0) ∷ ‵ (froom (tyInt w64) l35 0) ∷ ‵ (froom tyPtr l36 0) ∷ ‵ (froom tyPtr l37 0) ∷ ‵ (froom Row′.mir l38 0) ∷ ‵ (froom (tyRef erased mut (tyInt w8)) l39 0) ∷ ‵ (froom (sliceTy (tyRef erased mut (tyInt w8))) l40 0) ∷ ‵ (froom (tyRef erased mut rec-ty) l41 0) ∷ ‵ (froom (tyRef erased mut rec-ty) l42 0) ∷ ‵ (froom T′.mir l43 0) ∷ ‵ (froom (tyRef erased mut rec-ty) l44 0) ∷ ‵ (froom T′.mir l45 0) ∷ ‵ (froom (tyRef erased mut rec-ty) l46 0) ∷ Dies) (runs C Λ En code-resetting (anyQ (Next call)))
+        resetting : {y2 : Val} → reset ≡ stepFor call f room → room ≡ roomFor h call room → (c : Controller) → Is T.the-row c (LL.val T.the-type T′.the-laws c ∷ []) → c ≡ resetState → Sq W (‵ Rec ∷ ‵ (flft κ q) ∷ ‵ Bytes ∷ ‵ (flft κ-f q-f) ∷ ‵ (flft κ-room q-room) ∷ ‵ (finally u8 γ-room room) ∷ ‵ (froom Answered-row′.mir l0 0) ∷ ‵ (fat fullShare (tyRef (named 0) mut rec-ty) l1 0 (vptr b o)) ∷ ‵ (fat fullShare Call-row′.mir l2 0 y2) ∷ ‵ (fat fullShare (sliceTy (tyRef (named 1) imm (tyInt w8))) l3 0 s-f) ∷ ‵ (fat fullShare (sliceTy (tyRef (named 2) mut (tyInt w8))) l4 0 s-room) ∷ ‵ (froom (tyInt w8) l5 0) ∷ ‵ (froom Control-row′.mir l6 0) ∷ ‵ (froom (tyInt w64) l7 0) ∷ ‵ (froom Row′.mir l8 0) ∷ ‵ (froom (tyInt w8) l9 0) ∷ ‵ (froom (tyInt w8) l10 0) ∷ ‵ (froom Sync-row′.mir l11 0) ∷ ‵ (froom out-ty l12 0) ∷ ‵ (froom out-ty l13 0) ∷ ‵ (froom (tyInt w8) l14 0) ∷ ‵ (froom Ruling-row′.mir l15 0) ∷ ‵ (froom (tyInt w64) l16 0) ∷ ‵ (froom Row′.mir l17 0) ∷ ‵ (froom out-ty l18 0) ∷ ‵ (froom tyBool l19 0) ∷ ‵ (froom Fault-row′.mir l20 0) ∷ ‵ (froom out-ty l21 0) ∷ ‵ (froom out-ty l22 0) ∷ ‵ (froom Answered-row′.mir l23 0) ∷ ‵ (fat fullShare T′.mir l24 0 (LL.val T.the-type T′.the-laws c)) ∷ ‵ (froom (tyInt w64) l25 0) ∷ ‵ (froom tyPtr l26 0) ∷ ‵ (froom tyPtr l27 0) ∷ ‵ (froom Row′.mir l28 0) ∷ ‵ (froom (tyRef erased mut rec-ty) l29 0) ∷ ‵ (froom T′.mir l30 0) ∷ ‵ (froom (tyRef erased mut rec-ty) l31 0) ∷ ‵ (froom T′.mir l32 0) ∷ ‵ (froom (tyRef erased mut rec-ty) l33 0) ∷ ‵ (froom T′.mir l34 0) ∷ ‵ (froom (tyInt w64) l35 0) ∷ ‵ (froom tyPtr l36 0) ∷ ‵ (froom tyPtr l37 0) ∷ ‵ (froom Row′.mir l38 0) ∷ ‵ (froom (tyRef erased mut (tyInt w8)) l39 0) ∷ ‵ (froom (sliceTy (tyRef erased mut (tyInt w8))) l40 0) ∷ ‵ (froom (tyRef erased mut rec-ty) l41 0) ∷ ‵ (froom (tyRef erased mut rec-ty) l42 0) ∷ ‵ (froom T′.mir l43 0) ∷ ‵ (froom (tyRef erased mut rec-ty) l44 0) ∷ ‵ (froom T′.mir l45 0) ∷ ‵ (froom (tyRef erased mut rec-ty) l46 0) ∷ Dies) (runs C Λ En code-resetting (anyQ (Next call)))
         resetting s z c now-is e =
             fsplit3 ! $ drop ! $
             opens ! tt T.the-row {h = h} b o (λ vs. spelt ! T.the-row (Is T.the-row) (shows 𝓤 H A T.the-row) (LL.vals T.the-type T′.the-laws) (LL.tells T.the-type T′.the-laws) fullShare h vs b o $
@@ -508,11 +517,18 @@ module _ {M : Type 1} (𝓤 : URA M) (H : Heap 𝓤) (A : Atoms 𝓤) (W : Given
             assigns ! (of-opd ! (load ! (from ! (stop !)) (look ! 32 refl))) (from ! (hop ! (look ! 9 refl) (stop !))) (store-raw ! 0 refl (LL.lawful T.the-type T′.the-laws 𝓤 H A W .typed c _ now-is .0)) $
             owned ! T.the-row (Is T.the-row) (LL.makes T.the-type T′.the-plain 𝓤 H A) c _ now-is $ move ! (1 ∷ 0 ∷ 2 ∷ 3 ∷ 4 ∷ []) $ closes ! tt T.the-row c (mach c ∷ []) b o $
             use1 W (‵ (fres γ (T.the-row .coded .code c))) (W .names .obs-res γ (T.the-row .coded .code c)) $
-            assigns-last ! (agg ! (and-then ! (lit ! tt) (no-more !))) (from ! (stop !)) (init ! 30 refl (EL.lawful Answer-row.the-type Answer-row′.the-laws 𝓤 H A W tt .typed Ok _ ok-is .0)) $ exec ! C Λ En pieces.t-2 (atRet En (Post call)) $ forget ! 31 refl $
-            keep ! (0 ∷ 2 ∷ 3 ∷ 4 ∷ 5 ∷ 6 ∷ 7 ∷ 8 ∷ 9 ∷ 10 ∷ 11 ∷ 12 ∷ 13 ∷ 14 ∷ 15 ∷ 16 ∷ 17 ∷ 18 ∷ 19 ∷ 20 ∷ 21 ∷ 22 ∷ 23 ∷ 24 ∷ 25 ∷ 26 ∷ 27 ∷ 28 ∷ 29 ∷ 30 ∷ 31 ∷ 32 ∷ 33 ∷ 34 ∷ 35 ∷ 36 ∷ 37 ∷ 38 ∷ 39 ∷ 40 ∷ 41 ∷ 42 ∷ 43 ∷ 44 ∷ 45 ∷ 46 ∷ 47 ∷ 48 ∷ 49 ∷ 50 ∷ 51 ∷ 52 ∷ 53 ∷ 54 ∷ 55 ∷ 56 ∷ 57 ∷ 58 ∷ 59 ∷ 60 ∷ 61 ∷ 62 ∷ 63 ∷ 64 ∷ 65 ∷ 66 ∷ 67 ∷ 68 ∷ 69 ∷ 70 ∷ 71 ∷ 72 ∷ 73 ∷ 74 ∷ 75 ∷ 76 ∷ 77 ∷ 78 ∷ 79 ∷ 80 ∷ 81 ∷ 82 ∷ 83 ∷ 84 ∷ 85 ∷ 86 ∷ 87 ∷ 88 ∷ 89 ∷ 90 ∷ 91 ∷ 92 ∷ 93 ∷ 94 ∷ 95 ∷ 96 ∷ 97 ∷ 98 ∷ 99 ∷ 100 ∷ []) $ answered c Ok room (e ∙ sym (ap (λ (u : Done). u .next) (reset-step h)) ∙ ap next s, sym (ap (λ (u : Done). u .answer) (reset-step h)) ∙ ap answer s, z) ok-is refl))
+            use0 W (raw ((Accepts 𝓤 H A at-mem run) .pre to-accept)) asked-accept $
+            calls-at-last ! fm (Accepts 𝓤 H A at-mem run) known-accepts to-accept (no-more !) (λ v.
+            use1 W (later (some (λ (m : Answered). (‵ ftrue ⊛ ‵ (Answered-row.the-row .own m (v ∷ []))) ⊛ raw (ensured 𝓤 H A accepts.ended (accepts.clauses 𝓤 H A at-mem run) tt tt tt m)))) (id⊢ 𝓤 _) $ await ! tt $ pick ! (λ m.
+            split ! $ move ! (1 ∷ []) $ use1 W (some (λ (ws : Lasts accepts.ended tt tt). ‵ (lasts accepts.ended tt tt ws) ⊛ raw (fact 𝓤 (m ≡ accepted)))) (id⊢ 𝓤 _) $ pick ! (λ ws.
+            split ! $ move ! (1 ∷ []) $ heard ! (m ≡ accepted) (λ g. drop ! $ split ! $ drop ! $
+            peeks ! Answered-row.the-row (Is Answered-row.the-row) (shows 𝓤 H A Answered-row.the-row) m (v ∷ []) (λ is. drop ! $
+            land-last ! (from ! (stop !)) (init ! 30 refl (LL.lawful Answered-row.the-type Answered-row′.the-laws 𝓤 H A W .typed m _ is .0)) $ rewrite ! 30 (λ (u : Val). ‵ (fat fullShare Answered-row′.mir l23 0 u)) (ap only (LL.tells Answered-row.the-type Answered-row′.the-laws m _ is)) refl $
+            exec ! C Λ En pieces.t-2 (atRet En (Post call)) $ forget ! 31 refl $
+            keep ! (0 ∷ 2 ∷ 3 ∷ 4 ∷ 5 ∷ 6 ∷ 7 ∷ 8 ∷ 9 ∷ 10 ∷ 11 ∷ 12 ∷ 13 ∷ 14 ∷ 15 ∷ 16 ∷ 17 ∷ 18 ∷ 19 ∷ 20 ∷ 21 ∷ 22 ∷ 23 ∷ 24 ∷ 25 ∷ 26 ∷ 27 ∷ 28 ∷ 29 ∷ 30 ∷ 31 ∷ 32 ∷ 33 ∷ 34 ∷ 35 ∷ 36 ∷ 37 ∷ 38 ∷ 39 ∷ 40 ∷ 41 ∷ 42 ∷ 43 ∷ 44 ∷ 45 ∷ 46 ∷ 47 ∷ 48 ∷ 49 ∷ 50 ∷ 51 ∷ 52 ∷ 53 ∷ 54 ∷ 55 ∷ 56 ∷ 57 ∷ 58 ∷ 59 ∷ 60 ∷ 61 ∷ 62 ∷ 63 ∷ 64 ∷ 65 ∷ 66 ∷ 67 ∷ 68 ∷ 69 ∷ 70 ∷ 71 ∷ 72 ∷ 73 ∷ 74 ∷ 75 ∷ 76 ∷ 77 ∷ 78 ∷ 79 ∷ 80 ∷ 81 ∷ 82 ∷ 83 ∷ 84 ∷ 85 ∷ 86 ∷ 87 ∷ 88 ∷ 89 ∷ 90 ∷ 91 ∷ 92 ∷ 93 ∷ 94 ∷ 95 ∷ 96 ∷ 97 ∷ 98 ∷ 99 ∷ 100 ∷ []) $ answered c m room (e ∙ sym (ap (λ (u : Done). u .next) (reset-step h)) ∙ ap next s, g ∙ sym (ap answerIn (reset-step h)) ∙ ap answer s, z) (answer-is m _ is) refl)))))))
 
         -- Reset
-        on-reset : {y2 : Val} → reset ≡ stepFor call f room → room ≡ roomFor h call room → Sq W (‵ Rec ∷ ‵ (flft κ q) ∷ ‵ Bytes ∷ ‵ (flft κ-f q-f) ∷ ‵ Room′ ∷ ‵ (flft κ-room q-room) ∷ ‵ (froom Answer-row′.mir l0 0) ∷ ‵ (fat fullShare (tyRef (named 0) mut rec-ty) l1 0 (vptr b o)) ∷ ‵ (fat fullShare Call-row′.mir l2 0 y2) ∷ ‵ (fat fullShare (sliceTy (tyRef (named 1) imm (tyInt w8))) l3 0 s-f) ∷ ‵ (fat fullShare (sliceTy (tyRef (named 2) mut (tyInt w8))) l4 0 s-room) ∷ ‵ (froom (tyInt w8) l5 0) ∷ ‵ (froom Control-row′.mir l6 0) ∷ ‵ (froom (tyInt w64) l7 0) ∷ ‵ (froom Row′.mir l8 0) ∷ ‵ (froom (tyInt w8) l9 0) ∷ ‵ (froom (tyInt w8) l10 0) ∷ ‵ (froom Sync-row′.mir l11 0) ∷ ‵ (froom out-ty l12 0) ∷ ‵ (froom out-ty l13 0) ∷ ‵ (froom (tyInt w8) l14 0) ∷ ‵ (froom Ruling-row′.mir l15 0) ∷ ‵ (froom (tyInt w64) l16 0) ∷ ‵ (froom Row′.mir l17 0) ∷ ‵ (froom out-ty l18 0) ∷ ‵ (froom tyBool l19 0) ∷ ‵ (froom Fault-row′.mir l20 0) ∷ ‵ (froom out-ty l21 0) ∷ ‵ (froom out-ty l22 0) ∷ ‵ (froom Answer-row′.mir l23 0) ∷ ‵ (froom T′.mir l24 0) ∷ ‵ (froom (tyInt w64) l25 0) ∷ ‵ (froom tyPtr l26 0) ∷ ‵ (froom tyPtr l27 0) ∷ ‵ (froom Row′.mir l28 0) ∷ ‵ (froom (tyRef erased mut rec-ty) l29 0) ∷ ‵ (froom T′.mir l30 0) ∷ ‵ (froom (tyRef erased mut rec-ty) l31 0) ∷ ‵ (froom T′.mir l32 0) ∷ ‵ (froom (tyRef erased mut rec-ty) l33 0) ∷ ‵ (froom T′.mir l34 0) ∷ ‵ (froom (tyInt w64) l35 0) ∷ ‵ (froom tyPtr l36 0) ∷ ‵ (froom tyPtr l37 0) ∷ ‵ (froom Row′.mir l38 0) ∷ ‵ (froom (tyRef erased mut (tyInt w8)) l39 0) ∷ ‵ (froom (sliceTy (tyRef erased mut (tyInt w8))) l40 0) ∷ ‵ (froom (tyRef erased mut rec-ty) l41 0) ∷ ‵ (froom (tyRef erased mut rec-ty) l42 0) ∷ ‵ (froom T′.mir l43 0) ∷ ‵ (froom (tyRef erased mut rec-ty) l44 0) ∷ ‵ (froom T′.mir l45 0) ∷ ‵ (froom (tyRef erased mut rec-ty) l46 0) ∷ Dies) (runs C Λ En code-reset (anyQ (Next call)))
+        on-reset : {y2 : Val} → reset ≡ stepFor call f room → room ≡ roomFor h call room → Sq W (‵ Rec ∷ ‵ (flft κ q) ∷ ‵ Bytes ∷ ‵ (flft κ-f q-f) ∷ ‵ Room′ ∷ ‵ (flft κ-room q-room) ∷ ‵ (froom Answered-row′.mir l0 0) ∷ ‵ (fat fullShare (tyRef (named 0) mut rec-ty) l1 0 (vptr b o)) ∷ ‵ (fat fullShare Call-row′.mir l2 0 y2) ∷ ‵ (fat fullShare (sliceTy (tyRef (named 1) imm (tyInt w8))) l3 0 s-f) ∷ ‵ (fat fullShare (sliceTy (tyRef (named 2) mut (tyInt w8))) l4 0 s-room) ∷ ‵ (froom (tyInt w8) l5 0) ∷ ‵ (froom Control-row′.mir l6 0) ∷ ‵ (froom (tyInt w64) l7 0) ∷ ‵ (froom Row′.mir l8 0) ∷ ‵ (froom (tyInt w8) l9 0) ∷ ‵ (froom (tyInt w8) l10 0) ∷ ‵ (froom Sync-row′.mir l11 0) ∷ ‵ (froom out-ty l12 0) ∷ ‵ (froom out-ty l13 0) ∷ ‵ (froom (tyInt w8) l14 0) ∷ ‵ (froom Ruling-row′.mir l15 0) ∷ ‵ (froom (tyInt w64) l16 0) ∷ ‵ (froom Row′.mir l17 0) ∷ ‵ (froom out-ty l18 0) ∷ ‵ (froom tyBool l19 0) ∷ ‵ (froom Fault-row′.mir l20 0) ∷ ‵ (froom out-ty l21 0) ∷ ‵ (froom out-ty l22 0) ∷ ‵ (froom Answered-row′.mir l23 0) ∷ ‵ (froom T′.mir l24 0) ∷ ‵ (froom (tyInt w64) l25 0) ∷ ‵ (froom tyPtr l26 0) ∷ ‵ (froom tyPtr l27 0) ∷ ‵ (froom Row′.mir l28 0) ∷ ‵ (froom (tyRef erased mut rec-ty) l29 0) ∷ ‵ (froom T′.mir l30 0) ∷ ‵ (froom (tyRef erased mut rec-ty) l31 0) ∷ ‵ (froom T′.mir l32 0) ∷ ‵ (froom (tyRef erased mut rec-ty) l33 0) ∷ ‵ (froom T′.mir l34 0) ∷ ‵ (froom (tyInt w64) l35 0) ∷ ‵ (froom tyPtr l36 0) ∷ ‵ (froom tyPtr l37 0) ∷ ‵ (froom Row′.mir l38 0) ∷ ‵ (froom (tyRef erased mut (tyInt w8)) l39 0) ∷ ‵ (froom (sliceTy (tyRef erased mut (tyInt w8))) l40 0) ∷ ‵ (froom (tyRef erased mut rec-ty) l41 0) ∷ ‵ (froom (tyRef erased mut rec-ty) l42 0) ∷ ‵ (froom T′.mir l43 0) ∷ ‵ (froom (tyRef erased mut rec-ty) l44 0) ∷ ‵ (froom T′.mir l45 0) ∷ ‵ (froom (tyRef erased mut rec-ty) l46 0) ∷ Dies) (runs C Λ En code-reset (anyQ (Next call)))
         on-reset s z =
             move ! (4 ∷ []) $ fsplit ! $ move ! (1 ∷ []) $ fsplit ! $
             use1 W (‵ (fres γ-room (codedHoleys u8 .code (heres u8 room)))) (W .names .obs-res γ-room (codedHoleys u8 .code (heres u8 room))) $ use1 W (‵ (finally u8 γ-room room)) (res-finally 𝓤 H A W (named 2) κ-room u8 γ-room room) $
@@ -526,21 +542,21 @@ module _ {M : Type 1} (𝓤 : URA M) (H : Heap 𝓤) (A : Atoms 𝓤) (W : Given
             keep ! (3 ∷ 4 ∷ 5 ∷ 6 ∷ 7 ∷ 0 ∷ 8 ∷ 9 ∷ 10 ∷ 11 ∷ 12 ∷ 13 ∷ 14 ∷ 15 ∷ 16 ∷ 17 ∷ 18 ∷ 19 ∷ 20 ∷ 21 ∷ 22 ∷ 23 ∷ 24 ∷ 25 ∷ 26 ∷ 27 ∷ 28 ∷ 29 ∷ 30 ∷ 31 ∷ 32 ∷ 33 ∷ 34 ∷ 35 ∷ 36 ∷ 37 ∷ 38 ∷ 39 ∷ 40 ∷ 41 ∷ 42 ∷ 43 ∷ 44 ∷ 45 ∷ 46 ∷ 47 ∷ 48 ∷ 49 ∷ 50 ∷ 51 ∷ 52 ∷ 53 ∷ 54 ∷ 55 ∷ 56 ∷ 57 ∷ 58 ∷ 59 ∷ 60 ∷ 61 ∷ 62 ∷ 63 ∷ 64 ∷ 65 ∷ 66 ∷ 67 ∷ 68 ∷ 69 ∷ 70 ∷ 71 ∷ 72 ∷ 73 ∷ 74 ∷ 75 ∷ 76 ∷ 77 ∷ 78 ∷ 79 ∷ 80 ∷ 81 ∷ 82 ∷ 83 ∷ 84 ∷ 85 ∷ 86 ∷ 87 ∷ 88 ∷ 89 ∷ 90 ∷ 91 ∷ 92 ∷ 93 ∷ 94 ∷ 95 ∷ 96 ∷ 97 ∷ 98 ∷ 99 ∷ 100 ∷ 101 ∷ []) $ resetting s z c (same-is c _ is) e)))))
 
         -- what is made of the row
-        making-read : {y2 y7 y25 y26 y27 y28 : Val} (n : ℕ) → n < 2 ^ 8 → Is Control-row.the-row (h .control) (LL.val Control-row.the-type Control-row′.the-laws (h .control) ∷ []) → read n ≡ stepFor call f room → room ≡ roomFor h call room → (i : ℕ) → i ≡ windowRow (h .control) (registerAt n) → length (h .rows) ≡ 16 → Is Row.the-row (rowAt (h .rows) i) (LL.val Row.the-type Row′.the-laws (rowAt (h .rows) i) ∷ []) → Sq W (‵ (fobs γ (T.the-row .coded .code h)) ∷ ‵ (fbor κ (Body (mem T.the-row) b o γ)) ∷ ‵ (flft κ q) ∷ ‵ Bytes ∷ ‵ (flft κ-f q-f) ∷ ‵ (flft κ-room q-room) ∷ ‵ (finally u8 γ-room room) ∷ ‵ (froom Answer-row′.mir l0 0) ∷ ‵ (fat fullShare (tyRef (named 0) mut rec-ty) l1 0 (vptr b o)) ∷ ‵ (fat fullShare Call-row′.mir l2 0 y2) ∷ ‵ (fat fullShare (sliceTy (tyRef (named 1) imm (tyInt w8))) l3 0 s-f) ∷ ‵ (fat fullShare (sliceTy (tyRef (named 2) mut (tyInt w8))) l4 0 s-room) ∷ ‵ (fat fullShare (tyInt w8) l5 0 (vint w8 n)) ∷ ‵ (fat fullShare Control-row′.mir l6 0 (LL.val Control-row.the-type Control-row′.the-laws (h .control))) ∷ ‵ (fat fullShare (tyInt w64) l7 0 y7) ∷ ‵ (fat fullShare Row′.mir l8 0 (LL.val Row.the-type Row′.the-laws (rowAt (h .rows) i))) ∷ ‵ (froom (tyInt w8) l9 0) ∷ ‵ (froom (tyInt w8) l10 0) ∷ ‵ (froom Sync-row′.mir l11 0) ∷ ‵ (froom out-ty l12 0) ∷ ‵ (froom out-ty l13 0) ∷ ‵ (froom (tyInt w8) l14 0) ∷ ‵ (froom Ruling-row′.mir l15 0) ∷ ‵ (froom (tyInt w64) l16 0) ∷ ‵ (froom Row′.mir l17 0) ∷ ‵ (froom out-ty l18 0) ∷ ‵ (froom tyBool l19 0) ∷ ‵ (froom Fault-row′.mir l20 0) ∷ ‵ (froom out-ty l21 0) ∷ ‵ (froom out-ty l22 0) ∷ ‵ (froom Answer-row′.mir l23 0) ∷ ‵ (froom T′.mir l24 0) ∷ ‵ (fat fullShare (tyInt w64) l25 0 y25) ∷ ‵ (fat fullShare tyPtr l26 0 y26) ∷ ‵ (fat fullShare tyPtr l27 0 y27) ∷ ‵ (fat fullShare Row′.mir l28 0 y28) ∷ ‵ (froom (tyRef erased mut rec-ty) l29 0) ∷ ‵ (froom T′.mir l30 0) ∷ ‵ (froom (tyRef erased mut rec-ty) l31 0) ∷ ‵ (froom T′.mir l32 0) ∷ ‵ (froom (tyRef erased mut rec-ty) l33 0) ∷ ‵ (froom T′.mir l34 0) ∷ ‵ (froom (tyInt w64) l35 0) ∷ ‵ (froom tyPtr l36 0) ∷ ‵ (froom tyPtr l37 0) ∷ ‵ (froom Row′.mir l38 0) ∷ ‵ (froom (tyRef erased mut (tyInt w8)) l39 0) ∷ ‵ (froom (sliceTy (tyRef erased mut (tyInt w8))) l40 0) ∷ ‵ (froom (tyRef erased mut rec-ty) l41 0) ∷ ‵ (froom (tyRef erased mut rec-ty) l42 0) ∷ ‵ (froom T′.mir l43 0) ∷ ‵ (froom (tyRef erased mut rec-ty) l44 0) ∷ ‵ (froom T′.mir l45 0) ∷ ‵ (froom (tyRef erased mut rec-ty) l46 0) ∷ Dies) (runs C Λ En code-making-read (anyQ (Next call)))
+        making-read : {y2 y7 y25 y26 y27 y28 : Val} (n : ℕ) → n < 2 ^ 8 → Is Control-row.the-row (h .control) (LL.val Control-row.the-type Control-row′.the-laws (h .control) ∷ []) → read n ≡ stepFor call f room → room ≡ roomFor h call room → (i : ℕ) → i ≡ windowRow (h .control) (registerAt n) → length (h .rows) ≡ 16 → Is Row.the-row (rowAt (h .rows) i) (LL.val Row.the-type Row′.the-laws (rowAt (h .rows) i) ∷ []) → Sq W (‵ (fobs γ (T.the-row .coded .code h)) ∷ ‵ (fbor κ (Body (mem T.the-row) b o γ)) ∷ ‵ (flft κ q) ∷ ‵ Bytes ∷ ‵ (flft κ-f q-f) ∷ ‵ (flft κ-room q-room) ∷ ‵ (finally u8 γ-room room) ∷ ‵ (froom Answered-row′.mir l0 0) ∷ ‵ (fat fullShare (tyRef (named 0) mut rec-ty) l1 0 (vptr b o)) ∷ ‵ (fat fullShare Call-row′.mir l2 0 y2) ∷ ‵ (fat fullShare (sliceTy (tyRef (named 1) imm (tyInt w8))) l3 0 s-f) ∷ ‵ (fat fullShare (sliceTy (tyRef (named 2) mut (tyInt w8))) l4 0 s-room) ∷ ‵ (fat fullShare (tyInt w8) l5 0 (vint w8 n)) ∷ ‵ (fat fullShare Control-row′.mir l6 0 (LL.val Control-row.the-type Control-row′.the-laws (h .control))) ∷ ‵ (fat fullShare (tyInt w64) l7 0 y7) ∷ ‵ (fat fullShare Row′.mir l8 0 (LL.val Row.the-type Row′.the-laws (rowAt (h .rows) i))) ∷ ‵ (froom (tyInt w8) l9 0) ∷ ‵ (froom (tyInt w8) l10 0) ∷ ‵ (froom Sync-row′.mir l11 0) ∷ ‵ (froom out-ty l12 0) ∷ ‵ (froom out-ty l13 0) ∷ ‵ (froom (tyInt w8) l14 0) ∷ ‵ (froom Ruling-row′.mir l15 0) ∷ ‵ (froom (tyInt w64) l16 0) ∷ ‵ (froom Row′.mir l17 0) ∷ ‵ (froom out-ty l18 0) ∷ ‵ (froom tyBool l19 0) ∷ ‵ (froom Fault-row′.mir l20 0) ∷ ‵ (froom out-ty l21 0) ∷ ‵ (froom out-ty l22 0) ∷ ‵ (froom Answered-row′.mir l23 0) ∷ ‵ (froom T′.mir l24 0) ∷ ‵ (fat fullShare (tyInt w64) l25 0 y25) ∷ ‵ (fat fullShare tyPtr l26 0 y26) ∷ ‵ (fat fullShare tyPtr l27 0 y27) ∷ ‵ (fat fullShare Row′.mir l28 0 y28) ∷ ‵ (froom (tyRef erased mut rec-ty) l29 0) ∷ ‵ (froom T′.mir l30 0) ∷ ‵ (froom (tyRef erased mut rec-ty) l31 0) ∷ ‵ (froom T′.mir l32 0) ∷ ‵ (froom (tyRef erased mut rec-ty) l33 0) ∷ ‵ (froom T′.mir l34 0) ∷ ‵ (froom (tyInt w64) l35 0) ∷ ‵ (froom tyPtr l36 0) ∷ ‵ (froom tyPtr l37 0) ∷ ‵ (froom Row′.mir l38 0) ∷ ‵ (froom (tyRef erased mut (tyInt w8)) l39 0) ∷ ‵ (froom (sliceTy (tyRef erased mut (tyInt w8))) l40 0) ∷ ‵ (froom (tyRef erased mut rec-ty) l41 0) ∷ ‵ (froom (tyRef erased mut rec-ty) l42 0) ∷ ‵ (froom T′.mir l43 0) ∷ ‵ (froom (tyRef erased mut rec-ty) l44 0) ∷ ‵ (froom T′.mir l45 0) ∷ ‵ (froom (tyRef erased mut rec-ty) l46 0) ∷ Dies) (runs C Λ En code-making-read (anyQ (Next call)))
         making-read n n-fits d-is s z i p sixteen k-is =
             use0 W (raw ((Reads 𝓤 H A at-mem run) .pre (to-read n (rowAt (h .rows) i)))) (asked-read n (rowAt (h .rows) i) n-fits d-is k-is) $
             calls-at-last ! fm (Reads 𝓤 H A at-mem run) known-reads (to-read n (rowAt (h .rows) i)) (and-then ! (load ! (from ! (stop !)) (look ! 14 refl)) (and-then ! (load ! (from ! (stop !)) (look ! 13 refl)) (and-then ! (load ! (from ! (stop !)) (look ! 16 refl)) (no-more !)))) (λ v.
-            use1 W (later (some (λ (m : Answer). (‵ ftrue ⊛ ‵ (Answer-row.the-row .own m (v ∷ []))) ⊛ raw (ensured 𝓤 H A reads.ended (reads.clauses 𝓤 H A at-mem run) tt (args-read n (rowAt (h .rows) i)) tt m)))) (id⊢ 𝓤 _) $ await ! tt $ pick ! (λ m.
+            use1 W (later (some (λ (m : Answered). (‵ ftrue ⊛ ‵ (Answered-row.the-row .own m (v ∷ []))) ⊛ raw (ensured 𝓤 H A reads.ended (reads.clauses 𝓤 H A at-mem run) tt (args-read n (rowAt (h .rows) i)) tt m)))) (id⊢ 𝓤 _) $ await ! tt $ pick ! (λ m.
             split ! $ move ! (1 ∷ []) $ use1 W (some (λ (ws : Lasts reads.ended tt (args-read n (rowAt (h .rows) i))). ‵ (lasts reads.ended tt (args-read n (rowAt (h .rows) i)) ws) ⊛ raw (fact 𝓤 (m ≡ readAnswer (h .control) n (rowAt (h .rows) i))))) (id⊢ 𝓤 _) $ pick ! (λ ws.
             split ! $ move ! (1 ∷ []) $ heard ! (m ≡ readAnswer (h .control) n (rowAt (h .rows) i)) (λ g. drop ! $ split ! $ drop ! $
-            peeks ! Answer-row.the-row (Is Answer-row.the-row) (shows 𝓤 H A Answer-row.the-row) m (v ∷ []) (λ is. drop ! $
-            land-last ! (from ! (stop !)) (init ! 30 refl (EL.lawful Answer-row.the-type Answer-row′.the-laws 𝓤 H A W tt .typed m _ is .0)) $ rewrite ! 30 (λ (u : Val). ‵ (fat fullShare Answer-row′.mir l23 0 u)) (ap only (EL.tells Answer-row.the-type Answer-row′.the-laws m _ is)) refl $
+            peeks ! Answered-row.the-row (Is Answered-row.the-row) (shows 𝓤 H A Answered-row.the-row) m (v ∷ []) (λ is. drop ! $
+            land-last ! (from ! (stop !)) (init ! 30 refl (LL.lawful Answered-row.the-type Answered-row′.the-laws 𝓤 H A W .typed m _ is .0)) $ rewrite ! 30 (λ (u : Val). ‵ (fat fullShare Answered-row′.mir l23 0 u)) (ap only (LL.tells Answered-row.the-type Answered-row′.the-laws m _ is)) refl $
             use1 W (‵ (fres γ (T.the-row .coded .code h))) (W .names .obs-res γ (T.the-row .coded .code h)) $
             exec ! C Λ En pieces.t-2 (atRet En (Post call)) $ forget ! 12 refl $ forget ! 13 refl $ forget ! 14 refl $ forget ! 15 refl $ forget ! 32 refl $ forget ! 33 refl $ forget ! 34 refl $ forget ! 35 refl $
-            keep ! (0 ∷ 2 ∷ 3 ∷ 4 ∷ 5 ∷ 6 ∷ 7 ∷ 8 ∷ 9 ∷ 10 ∷ 11 ∷ 12 ∷ 13 ∷ 14 ∷ 15 ∷ 16 ∷ 17 ∷ 18 ∷ 19 ∷ 20 ∷ 21 ∷ 22 ∷ 23 ∷ 24 ∷ 25 ∷ 26 ∷ 27 ∷ 28 ∷ 29 ∷ 30 ∷ 31 ∷ 32 ∷ 33 ∷ 34 ∷ 35 ∷ 36 ∷ 37 ∷ 38 ∷ 39 ∷ 40 ∷ 41 ∷ 42 ∷ 43 ∷ 44 ∷ 45 ∷ 46 ∷ 47 ∷ 48 ∷ 49 ∷ 50 ∷ 51 ∷ 52 ∷ 53 ∷ 54 ∷ 55 ∷ 56 ∷ 57 ∷ 58 ∷ 59 ∷ 60 ∷ 61 ∷ 62 ∷ 63 ∷ 64 ∷ 65 ∷ 66 ∷ 67 ∷ 68 ∷ 69 ∷ 70 ∷ 71 ∷ 72 ∷ 73 ∷ 74 ∷ 75 ∷ 76 ∷ 77 ∷ 78 ∷ 79 ∷ 80 ∷ 81 ∷ 82 ∷ 83 ∷ 84 ∷ 85 ∷ 86 ∷ 87 ∷ 88 ∷ 89 ∷ 90 ∷ 91 ∷ 92 ∷ 93 ∷ 94 ∷ 95 ∷ 96 ∷ 97 ∷ 98 ∷ 99 ∷ 100 ∷ []) $ answered h m room (ap (λ (u : Done). u .next) (read-answers h sixteen n _ (ap (rowAt (h .rows)) p)) ∙ ap next s, g ∙ ap (λ (u : Done). u .answer) (read-answers h sixteen n _ (ap (rowAt (h .rows)) p)) ∙ ap answer s, z) (answer-is m _ is) refl)))))
+            keep ! (0 ∷ 2 ∷ 3 ∷ 4 ∷ 5 ∷ 6 ∷ 7 ∷ 8 ∷ 9 ∷ 10 ∷ 11 ∷ 12 ∷ 13 ∷ 14 ∷ 15 ∷ 16 ∷ 17 ∷ 18 ∷ 19 ∷ 20 ∷ 21 ∷ 22 ∷ 23 ∷ 24 ∷ 25 ∷ 26 ∷ 27 ∷ 28 ∷ 29 ∷ 30 ∷ 31 ∷ 32 ∷ 33 ∷ 34 ∷ 35 ∷ 36 ∷ 37 ∷ 38 ∷ 39 ∷ 40 ∷ 41 ∷ 42 ∷ 43 ∷ 44 ∷ 45 ∷ 46 ∷ 47 ∷ 48 ∷ 49 ∷ 50 ∷ 51 ∷ 52 ∷ 53 ∷ 54 ∷ 55 ∷ 56 ∷ 57 ∷ 58 ∷ 59 ∷ 60 ∷ 61 ∷ 62 ∷ 63 ∷ 64 ∷ 65 ∷ 66 ∷ 67 ∷ 68 ∷ 69 ∷ 70 ∷ 71 ∷ 72 ∷ 73 ∷ 74 ∷ 75 ∷ 76 ∷ 77 ∷ 78 ∷ 79 ∷ 80 ∷ 81 ∷ 82 ∷ 83 ∷ 84 ∷ 85 ∷ 86 ∷ 87 ∷ 88 ∷ 89 ∷ 90 ∷ 91 ∷ 92 ∷ 93 ∷ 94 ∷ 95 ∷ 96 ∷ 97 ∷ 98 ∷ 99 ∷ 100 ∷ []) $ answered h m room (ap (λ (u : Done). u .next) (read-answers h sixteen n _ (ap (rowAt (h .rows)) p)) ∙ ap next s, g ∙ ap answerIn (read-answers h sixteen n _ (ap (rowAt (h .rows)) p)) ∙ ap answer s, z) (answer-is m _ is) refl)))))
 
         -- the row is read
-        reading-read : {y2 : Val} (n : ℕ) → n < 2 ^ 8 → Is Control-row.the-row (h .control) (LL.val Control-row.the-type Control-row′.the-laws (h .control) ∷ []) → read n ≡ stepFor call f room → room ≡ roomFor h call room → (i : ℕ) → i ≡ windowRow (h .control) (registerAt n) → Sq W (‵ (fobs γ (T.the-row .coded .code h)) ∷ ‵ (fbor κ (Body (mem T.the-row) b o γ)) ∷ ‵ (flft κ q) ∷ ‵ Bytes ∷ ‵ (flft κ-f q-f) ∷ ‵ (flft κ-room q-room) ∷ ‵ (finally u8 γ-room room) ∷ ‵ (froom Answer-row′.mir l0 0) ∷ ‵ (fat fullShare (tyRef (named 0) mut rec-ty) l1 0 (vptr b o)) ∷ ‵ (fat fullShare Call-row′.mir l2 0 y2) ∷ ‵ (fat fullShare (sliceTy (tyRef (named 1) imm (tyInt w8))) l3 0 s-f) ∷ ‵ (fat fullShare (sliceTy (tyRef (named 2) mut (tyInt w8))) l4 0 s-room) ∷ ‵ (fat fullShare (tyInt w8) l5 0 (vint w8 n)) ∷ ‵ (fat fullShare Control-row′.mir l6 0 (LL.val Control-row.the-type Control-row′.the-laws (h .control))) ∷ ‵ (fat fullShare (tyInt w64) l7 0 (vint w64 i)) ∷ ‵ (froom Row′.mir l8 0) ∷ ‵ (froom (tyInt w8) l9 0) ∷ ‵ (froom (tyInt w8) l10 0) ∷ ‵ (froom Sync-row′.mir l11 0) ∷ ‵ (froom out-ty l12 0) ∷ ‵ (froom out-ty l13 0) ∷ ‵ (froom (tyInt w8) l14 0) ∷ ‵ (froom Ruling-row′.mir l15 0) ∷ ‵ (froom (tyInt w64) l16 0) ∷ ‵ (froom Row′.mir l17 0) ∷ ‵ (froom out-ty l18 0) ∷ ‵ (froom tyBool l19 0) ∷ ‵ (froom Fault-row′.mir l20 0) ∷ ‵ (froom out-ty l21 0) ∷ ‵ (froom out-ty l22 0) ∷ ‵ (froom Answer-row′.mir l23 0) ∷ ‵ (froom T′.mir l24 0) ∷ ‵ (froom (tyInt w64) l25 0) ∷ ‵ (froom tyPtr l26 0) ∷ ‵ (froom tyPtr l27 0) ∷ ‵ (froom Row′.mir l28 0) ∷ ‵ (froom (tyRef erased mut rec-ty) l29 0) ∷ ‵ (froom T′.mir l30 0) ∷ ‵ (froom (tyRef erased mut rec-ty) l31 0) ∷ ‵ (froom T′.mir l32 0) ∷ ‵ (froom (tyRef erased mut rec-ty) l33 0) ∷ ‵ (froom T′.mir l34 0) ∷ ‵ (froom (tyInt w64) l35 0) ∷ ‵ (froom tyPtr l36 0) ∷ ‵ (froom tyPtr l37 0) ∷ ‵ (froom Row′.mir l38 0) ∷ ‵ (froom (tyRef erased mut (tyInt w8)) l39 0) ∷ ‵ (froom (sliceTy (tyRef erased mut (tyInt w8))) l40 0) ∷ ‵ (froom (tyRef erased mut rec-ty) l41 0) ∷ ‵ (froom (tyRef erased mut rec-ty) l42 0) ∷ ‵ (froom T′.mir l43 0) ∷ ‵ (froom (tyRef erased mut rec-ty) l44 0) ∷ ‵ (froom T′.mir l45 0) ∷ ‵ (froom (tyRef erased mut rec-ty) l46 0) ∷ Dies) (runs C Λ En code-reading-read (anyQ (Next call)))
+        reading-read : {y2 : Val} (n : ℕ) → n < 2 ^ 8 → Is Control-row.the-row (h .control) (LL.val Control-row.the-type Control-row′.the-laws (h .control) ∷ []) → read n ≡ stepFor call f room → room ≡ roomFor h call room → (i : ℕ) → i ≡ windowRow (h .control) (registerAt n) → Sq W (‵ (fobs γ (T.the-row .coded .code h)) ∷ ‵ (fbor κ (Body (mem T.the-row) b o γ)) ∷ ‵ (flft κ q) ∷ ‵ Bytes ∷ ‵ (flft κ-f q-f) ∷ ‵ (flft κ-room q-room) ∷ ‵ (finally u8 γ-room room) ∷ ‵ (froom Answered-row′.mir l0 0) ∷ ‵ (fat fullShare (tyRef (named 0) mut rec-ty) l1 0 (vptr b o)) ∷ ‵ (fat fullShare Call-row′.mir l2 0 y2) ∷ ‵ (fat fullShare (sliceTy (tyRef (named 1) imm (tyInt w8))) l3 0 s-f) ∷ ‵ (fat fullShare (sliceTy (tyRef (named 2) mut (tyInt w8))) l4 0 s-room) ∷ ‵ (fat fullShare (tyInt w8) l5 0 (vint w8 n)) ∷ ‵ (fat fullShare Control-row′.mir l6 0 (LL.val Control-row.the-type Control-row′.the-laws (h .control))) ∷ ‵ (fat fullShare (tyInt w64) l7 0 (vint w64 i)) ∷ ‵ (froom Row′.mir l8 0) ∷ ‵ (froom (tyInt w8) l9 0) ∷ ‵ (froom (tyInt w8) l10 0) ∷ ‵ (froom Sync-row′.mir l11 0) ∷ ‵ (froom out-ty l12 0) ∷ ‵ (froom out-ty l13 0) ∷ ‵ (froom (tyInt w8) l14 0) ∷ ‵ (froom Ruling-row′.mir l15 0) ∷ ‵ (froom (tyInt w64) l16 0) ∷ ‵ (froom Row′.mir l17 0) ∷ ‵ (froom out-ty l18 0) ∷ ‵ (froom tyBool l19 0) ∷ ‵ (froom Fault-row′.mir l20 0) ∷ ‵ (froom out-ty l21 0) ∷ ‵ (froom out-ty l22 0) ∷ ‵ (froom Answered-row′.mir l23 0) ∷ ‵ (froom T′.mir l24 0) ∷ ‵ (froom (tyInt w64) l25 0) ∷ ‵ (froom tyPtr l26 0) ∷ ‵ (froom tyPtr l27 0) ∷ ‵ (froom Row′.mir l28 0) ∷ ‵ (froom (tyRef erased mut rec-ty) l29 0) ∷ ‵ (froom T′.mir l30 0) ∷ ‵ (froom (tyRef erased mut rec-ty) l31 0) ∷ ‵ (froom T′.mir l32 0) ∷ ‵ (froom (tyRef erased mut rec-ty) l33 0) ∷ ‵ (froom T′.mir l34 0) ∷ ‵ (froom (tyInt w64) l35 0) ∷ ‵ (froom tyPtr l36 0) ∷ ‵ (froom tyPtr l37 0) ∷ ‵ (froom Row′.mir l38 0) ∷ ‵ (froom (tyRef erased mut (tyInt w8)) l39 0) ∷ ‵ (froom (sliceTy (tyRef erased mut (tyInt w8))) l40 0) ∷ ‵ (froom (tyRef erased mut rec-ty) l41 0) ∷ ‵ (froom (tyRef erased mut rec-ty) l42 0) ∷ ‵ (froom T′.mir l43 0) ∷ ‵ (froom (tyRef erased mut rec-ty) l44 0) ∷ ‵ (froom T′.mir l45 0) ∷ ‵ (froom (tyRef erased mut rec-ty) l46 0) ∷ Dies) (runs C Λ En code-reading-read (anyQ (Next call)))
         reading-read n n-fits d-is s z i p =
             opens ! tt T.the-row {h = h} b o (λ vs. spelt ! T.the-row (Is T.the-row) (shows 𝓤 H A T.the-row) (LL.vals T.the-type T′.the-laws) (LL.tells T.the-type T′.the-laws) fullShare h vs b o $
             move ! (1 ∷ []) $ peeks ! T.the-row (Is T.the-row) (shows 𝓤 H A T.the-row) h (mach h ∷ []) (λ was.
@@ -556,7 +572,7 @@ module _ {M : Type 1} (𝓤 : URA M) (H : Heap 𝓤) (A : Atoms 𝓤) (W : Given
             making-read n n-fits d-is s z i p (sixteen-rows h was) (row-is h was i (window-below (h .control) (registerAt n) i p))))
 
         -- the index of its row
-        finding-read : {y2 : Val} (n : ℕ) → n < 2 ^ 8 → Is Control-row.the-row (h .control) (LL.val Control-row.the-type Control-row′.the-laws (h .control) ∷ []) → read n ≡ stepFor call f room → room ≡ roomFor h call room → Sq W (‵ (fobs γ (T.the-row .coded .code h)) ∷ ‵ (fbor κ (Body (mem T.the-row) b o γ)) ∷ ‵ (flft κ q) ∷ ‵ Bytes ∷ ‵ (flft κ-f q-f) ∷ ‵ (flft κ-room q-room) ∷ ‵ (finally u8 γ-room room) ∷ ‵ (froom Answer-row′.mir l0 0) ∷ ‵ (fat fullShare (tyRef (named 0) mut rec-ty) l1 0 (vptr b o)) ∷ ‵ (fat fullShare Call-row′.mir l2 0 y2) ∷ ‵ (fat fullShare (sliceTy (tyRef (named 1) imm (tyInt w8))) l3 0 s-f) ∷ ‵ (fat fullShare (sliceTy (tyRef (named 2) mut (tyInt w8))) l4 0 s-room) ∷ ‵ (fat fullShare (tyInt w8) l5 0 (vint w8 n)) ∷ ‵ (fat fullShare Control-row′.mir l6 0 (LL.val Control-row.the-type Control-row′.the-laws (h .control))) ∷ ‵ (froom (tyInt w64) l7 0) ∷ ‵ (froom Row′.mir l8 0) ∷ ‵ (froom (tyInt w8) l9 0) ∷ ‵ (froom (tyInt w8) l10 0) ∷ ‵ (froom Sync-row′.mir l11 0) ∷ ‵ (froom out-ty l12 0) ∷ ‵ (froom out-ty l13 0) ∷ ‵ (froom (tyInt w8) l14 0) ∷ ‵ (froom Ruling-row′.mir l15 0) ∷ ‵ (froom (tyInt w64) l16 0) ∷ ‵ (froom Row′.mir l17 0) ∷ ‵ (froom out-ty l18 0) ∷ ‵ (froom tyBool l19 0) ∷ ‵ (froom Fault-row′.mir l20 0) ∷ ‵ (froom out-ty l21 0) ∷ ‵ (froom out-ty l22 0) ∷ ‵ (froom Answer-row′.mir l23 0) ∷ ‵ (froom T′.mir l24 0) ∷ ‵ (froom (tyInt w64) l25 0) ∷ ‵ (froom tyPtr l26 0) ∷ ‵ (froom tyPtr l27 0) ∷ ‵ (froom Row′.mir l28 0) ∷ ‵ (froom (tyRef erased mut rec-ty) l29 0) ∷ ‵ (froom T′.mir l30 0) ∷ ‵ (froom (tyRef erased mut rec-ty) l31 0) ∷ ‵ (froom T′.mir l32 0) ∷ ‵ (froom (tyRef erased mut rec-ty) l33 0) ∷ ‵ (froom T′.mir l34 0) ∷ ‵ (froom (tyInt w64) l35 0) ∷ ‵ (froom tyPtr l36 0) ∷ ‵ (froom tyPtr l37 0) ∷ ‵ (froom Row′.mir l38 0) ∷ ‵ (froom (tyRef erased mut (tyInt w8)) l39 0) ∷ ‵ (froom (sliceTy (tyRef erased mut (tyInt w8))) l40 0) ∷ ‵ (froom (tyRef erased mut rec-ty) l41 0) ∷ ‵ (froom (tyRef erased mut rec-ty) l42 0) ∷ ‵ (froom T′.mir l43 0) ∷ ‵ (froom (tyRef erased mut rec-ty) l44 0) ∷ ‵ (froom T′.mir l45 0) ∷ ‵ (froom (tyRef erased mut rec-ty) l46 0) ∷ Dies) (runs C Λ En code-finding-read (anyQ (Next call)))
+        finding-read : {y2 : Val} (n : ℕ) → n < 2 ^ 8 → Is Control-row.the-row (h .control) (LL.val Control-row.the-type Control-row′.the-laws (h .control) ∷ []) → read n ≡ stepFor call f room → room ≡ roomFor h call room → Sq W (‵ (fobs γ (T.the-row .coded .code h)) ∷ ‵ (fbor κ (Body (mem T.the-row) b o γ)) ∷ ‵ (flft κ q) ∷ ‵ Bytes ∷ ‵ (flft κ-f q-f) ∷ ‵ (flft κ-room q-room) ∷ ‵ (finally u8 γ-room room) ∷ ‵ (froom Answered-row′.mir l0 0) ∷ ‵ (fat fullShare (tyRef (named 0) mut rec-ty) l1 0 (vptr b o)) ∷ ‵ (fat fullShare Call-row′.mir l2 0 y2) ∷ ‵ (fat fullShare (sliceTy (tyRef (named 1) imm (tyInt w8))) l3 0 s-f) ∷ ‵ (fat fullShare (sliceTy (tyRef (named 2) mut (tyInt w8))) l4 0 s-room) ∷ ‵ (fat fullShare (tyInt w8) l5 0 (vint w8 n)) ∷ ‵ (fat fullShare Control-row′.mir l6 0 (LL.val Control-row.the-type Control-row′.the-laws (h .control))) ∷ ‵ (froom (tyInt w64) l7 0) ∷ ‵ (froom Row′.mir l8 0) ∷ ‵ (froom (tyInt w8) l9 0) ∷ ‵ (froom (tyInt w8) l10 0) ∷ ‵ (froom Sync-row′.mir l11 0) ∷ ‵ (froom out-ty l12 0) ∷ ‵ (froom out-ty l13 0) ∷ ‵ (froom (tyInt w8) l14 0) ∷ ‵ (froom Ruling-row′.mir l15 0) ∷ ‵ (froom (tyInt w64) l16 0) ∷ ‵ (froom Row′.mir l17 0) ∷ ‵ (froom out-ty l18 0) ∷ ‵ (froom tyBool l19 0) ∷ ‵ (froom Fault-row′.mir l20 0) ∷ ‵ (froom out-ty l21 0) ∷ ‵ (froom out-ty l22 0) ∷ ‵ (froom Answered-row′.mir l23 0) ∷ ‵ (froom T′.mir l24 0) ∷ ‵ (froom (tyInt w64) l25 0) ∷ ‵ (froom tyPtr l26 0) ∷ ‵ (froom tyPtr l27 0) ∷ ‵ (froom Row′.mir l28 0) ∷ ‵ (froom (tyRef erased mut rec-ty) l29 0) ∷ ‵ (froom T′.mir l30 0) ∷ ‵ (froom (tyRef erased mut rec-ty) l31 0) ∷ ‵ (froom T′.mir l32 0) ∷ ‵ (froom (tyRef erased mut rec-ty) l33 0) ∷ ‵ (froom T′.mir l34 0) ∷ ‵ (froom (tyInt w64) l35 0) ∷ ‵ (froom tyPtr l36 0) ∷ ‵ (froom tyPtr l37 0) ∷ ‵ (froom Row′.mir l38 0) ∷ ‵ (froom (tyRef erased mut (tyInt w8)) l39 0) ∷ ‵ (froom (sliceTy (tyRef erased mut (tyInt w8))) l40 0) ∷ ‵ (froom (tyRef erased mut rec-ty) l41 0) ∷ ‵ (froom (tyRef erased mut rec-ty) l42 0) ∷ ‵ (froom T′.mir l43 0) ∷ ‵ (froom (tyRef erased mut rec-ty) l44 0) ∷ ‵ (froom T′.mir l45 0) ∷ ‵ (froom (tyRef erased mut rec-ty) l46 0) ∷ Dies) (runs C Λ En code-finding-read (anyQ (Next call)))
         finding-read n n-fits d-is s z =
             use0 W (raw ((Windows 𝓤 H A at-mem run) .pre (to-windows n))) (asked-windows n n-fits d-is) $
             calls-at ! fm (Windows 𝓤 H A at-mem run) known-windows (to-windows n) (and-then ! (load ! (from ! (stop !)) (look ! 14 refl)) (and-then ! (load ! (from ! (stop !)) (look ! 13 refl)) (no-more !))) (λ v.
@@ -568,7 +584,7 @@ module _ {M : Type 1} (𝓤 : URA M) (H : Heap 𝓤) (A : Atoms 𝓤) (W : Given
             reading-read n n-fits d-is s z i p)))))
 
         -- Read
-        on-read : {y2 : Val} (n : ℕ) → n < 2 ^ 8 → read n ≡ stepFor call f room → room ≡ roomFor h call room → Sq W (‵ Rec ∷ ‵ (flft κ q) ∷ ‵ Bytes ∷ ‵ (flft κ-f q-f) ∷ ‵ Room′ ∷ ‵ (flft κ-room q-room) ∷ ‵ (froom Answer-row′.mir l0 0) ∷ ‵ (fat fullShare (tyRef (named 0) mut rec-ty) l1 0 (vptr b o)) ∷ ‵ (fat fullShare Call-row′.mir l2 0 y2) ∷ ‵ (fat fullShare (sliceTy (tyRef (named 1) imm (tyInt w8))) l3 0 s-f) ∷ ‵ (fat fullShare (sliceTy (tyRef (named 2) mut (tyInt w8))) l4 0 s-room) ∷ ‵ (fat fullShare (tyInt w8) l5 0 (vint w8 n)) ∷ ‵ (froom Control-row′.mir l6 0) ∷ ‵ (froom (tyInt w64) l7 0) ∷ ‵ (froom Row′.mir l8 0) ∷ ‵ (froom (tyInt w8) l9 0) ∷ ‵ (froom (tyInt w8) l10 0) ∷ ‵ (froom Sync-row′.mir l11 0) ∷ ‵ (froom out-ty l12 0) ∷ ‵ (froom out-ty l13 0) ∷ ‵ (froom (tyInt w8) l14 0) ∷ ‵ (froom Ruling-row′.mir l15 0) ∷ ‵ (froom (tyInt w64) l16 0) ∷ ‵ (froom Row′.mir l17 0) ∷ ‵ (froom out-ty l18 0) ∷ ‵ (froom tyBool l19 0) ∷ ‵ (froom Fault-row′.mir l20 0) ∷ ‵ (froom out-ty l21 0) ∷ ‵ (froom out-ty l22 0) ∷ ‵ (froom Answer-row′.mir l23 0) ∷ ‵ (froom T′.mir l24 0) ∷ ‵ (froom (tyInt w64) l25 0) ∷ ‵ (froom tyPtr l26 0) ∷ ‵ (froom tyPtr l27 0) ∷ ‵ (froom Row′.mir l28 0) ∷ ‵ (froom (tyRef erased mut rec-ty) l29 0) ∷ ‵ (froom T′.mir l30 0) ∷ ‵ (froom (tyRef erased mut rec-ty) l31 0) ∷ ‵ (froom T′.mir l32 0) ∷ ‵ (froom (tyRef erased mut rec-ty) l33 0) ∷ ‵ (froom T′.mir l34 0) ∷ ‵ (froom (tyInt w64) l35 0) ∷ ‵ (froom tyPtr l36 0) ∷ ‵ (froom tyPtr l37 0) ∷ ‵ (froom Row′.mir l38 0) ∷ ‵ (froom (tyRef erased mut (tyInt w8)) l39 0) ∷ ‵ (froom (sliceTy (tyRef erased mut (tyInt w8))) l40 0) ∷ ‵ (froom (tyRef erased mut rec-ty) l41 0) ∷ ‵ (froom (tyRef erased mut rec-ty) l42 0) ∷ ‵ (froom T′.mir l43 0) ∷ ‵ (froom (tyRef erased mut rec-ty) l44 0) ∷ ‵ (froom T′.mir l45 0) ∷ ‵ (froom (tyRef erased mut rec-ty) l46 0) ∷ Dies) (runs C Λ En code-read (anyQ (Next call)))
+        on-read : {y2 : Val} (n : ℕ) → n < 2 ^ 8 → read n ≡ stepFor call f room → room ≡ roomFor h call room → Sq W (‵ Rec ∷ ‵ (flft κ q) ∷ ‵ Bytes ∷ ‵ (flft κ-f q-f) ∷ ‵ Room′ ∷ ‵ (flft κ-room q-room) ∷ ‵ (froom Answered-row′.mir l0 0) ∷ ‵ (fat fullShare (tyRef (named 0) mut rec-ty) l1 0 (vptr b o)) ∷ ‵ (fat fullShare Call-row′.mir l2 0 y2) ∷ ‵ (fat fullShare (sliceTy (tyRef (named 1) imm (tyInt w8))) l3 0 s-f) ∷ ‵ (fat fullShare (sliceTy (tyRef (named 2) mut (tyInt w8))) l4 0 s-room) ∷ ‵ (fat fullShare (tyInt w8) l5 0 (vint w8 n)) ∷ ‵ (froom Control-row′.mir l6 0) ∷ ‵ (froom (tyInt w64) l7 0) ∷ ‵ (froom Row′.mir l8 0) ∷ ‵ (froom (tyInt w8) l9 0) ∷ ‵ (froom (tyInt w8) l10 0) ∷ ‵ (froom Sync-row′.mir l11 0) ∷ ‵ (froom out-ty l12 0) ∷ ‵ (froom out-ty l13 0) ∷ ‵ (froom (tyInt w8) l14 0) ∷ ‵ (froom Ruling-row′.mir l15 0) ∷ ‵ (froom (tyInt w64) l16 0) ∷ ‵ (froom Row′.mir l17 0) ∷ ‵ (froom out-ty l18 0) ∷ ‵ (froom tyBool l19 0) ∷ ‵ (froom Fault-row′.mir l20 0) ∷ ‵ (froom out-ty l21 0) ∷ ‵ (froom out-ty l22 0) ∷ ‵ (froom Answered-row′.mir l23 0) ∷ ‵ (froom T′.mir l24 0) ∷ ‵ (froom (tyInt w64) l25 0) ∷ ‵ (froom tyPtr l26 0) ∷ ‵ (froom tyPtr l27 0) ∷ ‵ (froom Row′.mir l28 0) ∷ ‵ (froom (tyRef erased mut rec-ty) l29 0) ∷ ‵ (froom T′.mir l30 0) ∷ ‵ (froom (tyRef erased mut rec-ty) l31 0) ∷ ‵ (froom T′.mir l32 0) ∷ ‵ (froom (tyRef erased mut rec-ty) l33 0) ∷ ‵ (froom T′.mir l34 0) ∷ ‵ (froom (tyInt w64) l35 0) ∷ ‵ (froom tyPtr l36 0) ∷ ‵ (froom tyPtr l37 0) ∷ ‵ (froom Row′.mir l38 0) ∷ ‵ (froom (tyRef erased mut (tyInt w8)) l39 0) ∷ ‵ (froom (sliceTy (tyRef erased mut (tyInt w8))) l40 0) ∷ ‵ (froom (tyRef erased mut rec-ty) l41 0) ∷ ‵ (froom (tyRef erased mut rec-ty) l42 0) ∷ ‵ (froom T′.mir l43 0) ∷ ‵ (froom (tyRef erased mut rec-ty) l44 0) ∷ ‵ (froom T′.mir l45 0) ∷ ‵ (froom (tyRef erased mut rec-ty) l46 0) ∷ Dies) (runs C Λ En code-read (anyQ (Next call)))
         on-read n n-fits s z =
             fsplit3 ! $ drop ! $
             opens ! tt T.the-row {h = h} b o (λ vs. spelt ! T.the-row (Is T.the-row) (shows 𝓤 H A T.the-row) (LL.vals T.the-type T′.the-laws) (LL.tells T.the-type T′.the-laws) fullShare h vs b o $
@@ -582,37 +598,37 @@ module _ {M : Type 1} (𝓤 : URA M) (H : Heap 𝓤) (A : Atoms 𝓤) (W : Given
             keep ! (3 ∷ 4 ∷ 5 ∷ 6 ∷ 7 ∷ 8 ∷ 0 ∷ 9 ∷ 10 ∷ 11 ∷ 12 ∷ 13 ∷ 14 ∷ 15 ∷ 16 ∷ 17 ∷ 18 ∷ 19 ∷ 20 ∷ 21 ∷ 22 ∷ 23 ∷ 24 ∷ 25 ∷ 26 ∷ 27 ∷ 28 ∷ 29 ∷ 30 ∷ 31 ∷ 32 ∷ 33 ∷ 34 ∷ 35 ∷ 36 ∷ 37 ∷ 38 ∷ 39 ∷ 40 ∷ 41 ∷ 42 ∷ 43 ∷ 44 ∷ 45 ∷ 46 ∷ 47 ∷ 48 ∷ 49 ∷ 50 ∷ 51 ∷ 52 ∷ 53 ∷ 54 ∷ 55 ∷ 56 ∷ 57 ∷ 58 ∷ 59 ∷ 60 ∷ 61 ∷ 62 ∷ 63 ∷ 64 ∷ 65 ∷ 66 ∷ 67 ∷ 68 ∷ 69 ∷ 70 ∷ 71 ∷ 72 ∷ 73 ∷ 74 ∷ 75 ∷ 76 ∷ 77 ∷ 78 ∷ 79 ∷ 80 ∷ 81 ∷ 82 ∷ 83 ∷ 84 ∷ 85 ∷ 86 ∷ 87 ∷ 88 ∷ 89 ∷ 90 ∷ 91 ∷ 92 ∷ 93 ∷ 94 ∷ 95 ∷ 96 ∷ 97 ∷ 98 ∷ 99 ∷ 100 ∷ 101 ∷ 102 ∷ []) $ finding-read n n-fits (control-is h was) s z))
 
         -- Write
-        on-write : {y2 : Val} (n : ℕ) (u : ℕ) → n < 2 ^ 8 → u < 2 ^ 8 → write n u ≡ stepFor call f room → room ≡ roomFor h call room → Sq W (‵ Rec ∷ ‵ (flft κ q) ∷ ‵ Bytes ∷ ‵ (flft κ-f q-f) ∷ ‵ Room′ ∷ ‵ (flft κ-room q-room) ∷ ‵ (froom Answer-row′.mir l0 0) ∷ ‵ (fat fullShare (tyRef (named 0) mut rec-ty) l1 0 (vptr b o)) ∷ ‵ (fat fullShare Call-row′.mir l2 0 y2) ∷ ‵ (fat fullShare (sliceTy (tyRef (named 1) imm (tyInt w8))) l3 0 s-f) ∷ ‵ (fat fullShare (sliceTy (tyRef (named 2) mut (tyInt w8))) l4 0 s-room) ∷ ‵ (froom (tyInt w8) l5 0) ∷ ‵ (froom Control-row′.mir l6 0) ∷ ‵ (froom (tyInt w64) l7 0) ∷ ‵ (froom Row′.mir l8 0) ∷ ‵ (fat fullShare (tyInt w8) l9 0 (vint w8 n)) ∷ ‵ (fat fullShare (tyInt w8) l10 0 (vint w8 u)) ∷ ‵ (froom Sync-row′.mir l11 0) ∷ ‵ (froom out-ty l12 0) ∷ ‵ (froom out-ty l13 0) ∷ ‵ (froom (tyInt w8) l14 0) ∷ ‵ (froom Ruling-row′.mir l15 0) ∷ ‵ (froom (tyInt w64) l16 0) ∷ ‵ (froom Row′.mir l17 0) ∷ ‵ (froom out-ty l18 0) ∷ ‵ (froom tyBool l19 0) ∷ ‵ (froom Fault-row′.mir l20 0) ∷ ‵ (froom out-ty l21 0) ∷ ‵ (froom out-ty l22 0) ∷ ‵ (froom Answer-row′.mir l23 0) ∷ ‵ (froom T′.mir l24 0) ∷ ‵ (froom (tyInt w64) l25 0) ∷ ‵ (froom tyPtr l26 0) ∷ ‵ (froom tyPtr l27 0) ∷ ‵ (froom Row′.mir l28 0) ∷ ‵ (froom (tyRef erased mut rec-ty) l29 0) ∷ ‵ (froom T′.mir l30 0) ∷ ‵ (froom (tyRef erased mut rec-ty) l31 0) ∷ ‵ (froom T′.mir l32 0) ∷ ‵ (froom (tyRef erased mut rec-ty) l33 0) ∷ ‵ (froom T′.mir l34 0) ∷ ‵ (froom (tyInt w64) l35 0) ∷ ‵ (froom tyPtr l36 0) ∷ ‵ (froom tyPtr l37 0) ∷ ‵ (froom Row′.mir l38 0) ∷ ‵ (froom (tyRef erased mut (tyInt w8)) l39 0) ∷ ‵ (froom (sliceTy (tyRef erased mut (tyInt w8))) l40 0) ∷ ‵ (froom (tyRef erased mut rec-ty) l41 0) ∷ ‵ (froom (tyRef erased mut rec-ty) l42 0) ∷ ‵ (froom T′.mir l43 0) ∷ ‵ (froom (tyRef erased mut rec-ty) l44 0) ∷ ‵ (froom T′.mir l45 0) ∷ ‵ (froom (tyRef erased mut rec-ty) l46 0) ∷ Dies) (runs C Λ En code-write (anyQ (Next call)))
+        on-write : {y2 : Val} (n : ℕ) (u : ℕ) → n < 2 ^ 8 → u < 2 ^ 8 → write n u ≡ stepFor call f room → room ≡ roomFor h call room → Sq W (‵ Rec ∷ ‵ (flft κ q) ∷ ‵ Bytes ∷ ‵ (flft κ-f q-f) ∷ ‵ Room′ ∷ ‵ (flft κ-room q-room) ∷ ‵ (froom Answered-row′.mir l0 0) ∷ ‵ (fat fullShare (tyRef (named 0) mut rec-ty) l1 0 (vptr b o)) ∷ ‵ (fat fullShare Call-row′.mir l2 0 y2) ∷ ‵ (fat fullShare (sliceTy (tyRef (named 1) imm (tyInt w8))) l3 0 s-f) ∷ ‵ (fat fullShare (sliceTy (tyRef (named 2) mut (tyInt w8))) l4 0 s-room) ∷ ‵ (froom (tyInt w8) l5 0) ∷ ‵ (froom Control-row′.mir l6 0) ∷ ‵ (froom (tyInt w64) l7 0) ∷ ‵ (froom Row′.mir l8 0) ∷ ‵ (fat fullShare (tyInt w8) l9 0 (vint w8 n)) ∷ ‵ (fat fullShare (tyInt w8) l10 0 (vint w8 u)) ∷ ‵ (froom Sync-row′.mir l11 0) ∷ ‵ (froom out-ty l12 0) ∷ ‵ (froom out-ty l13 0) ∷ ‵ (froom (tyInt w8) l14 0) ∷ ‵ (froom Ruling-row′.mir l15 0) ∷ ‵ (froom (tyInt w64) l16 0) ∷ ‵ (froom Row′.mir l17 0) ∷ ‵ (froom out-ty l18 0) ∷ ‵ (froom tyBool l19 0) ∷ ‵ (froom Fault-row′.mir l20 0) ∷ ‵ (froom out-ty l21 0) ∷ ‵ (froom out-ty l22 0) ∷ ‵ (froom Answered-row′.mir l23 0) ∷ ‵ (froom T′.mir l24 0) ∷ ‵ (froom (tyInt w64) l25 0) ∷ ‵ (froom tyPtr l26 0) ∷ ‵ (froom tyPtr l27 0) ∷ ‵ (froom Row′.mir l28 0) ∷ ‵ (froom (tyRef erased mut rec-ty) l29 0) ∷ ‵ (froom T′.mir l30 0) ∷ ‵ (froom (tyRef erased mut rec-ty) l31 0) ∷ ‵ (froom T′.mir l32 0) ∷ ‵ (froom (tyRef erased mut rec-ty) l33 0) ∷ ‵ (froom T′.mir l34 0) ∷ ‵ (froom (tyInt w64) l35 0) ∷ ‵ (froom tyPtr l36 0) ∷ ‵ (froom tyPtr l37 0) ∷ ‵ (froom Row′.mir l38 0) ∷ ‵ (froom (tyRef erased mut (tyInt w8)) l39 0) ∷ ‵ (froom (sliceTy (tyRef erased mut (tyInt w8))) l40 0) ∷ ‵ (froom (tyRef erased mut rec-ty) l41 0) ∷ ‵ (froom (tyRef erased mut rec-ty) l42 0) ∷ ‵ (froom T′.mir l43 0) ∷ ‵ (froom (tyRef erased mut rec-ty) l44 0) ∷ ‵ (froom T′.mir l45 0) ∷ ‵ (froom (tyRef erased mut rec-ty) l46 0) ∷ Dies) (runs C Λ En code-write (anyQ (Next call)))
         on-write n u n-fits u-fits s z =
             fsplit3 ! $ drop ! $ move ! (5 ∷ []) $ fsplit ! $ move ! (1 ∷ []) $ fsplit ! $
             use1 W (‵ (fres γ-room (codedHoleys u8 .code (heres u8 room)))) (W .names .obs-res γ-room (codedHoleys u8 .code (heres u8 room))) $ use1 W (‵ (finally u8 γ-room room)) (res-finally 𝓤 H A W (named 2) κ-room u8 γ-room room) $
             assigns ! (addr ! (from ! (hop ! (look ! 10 refl) (stop !)))) (from ! (stop !)) (init ! 38 refl (tt, tt)) $
             move ! (3 ∷ 4 ∷ 5 ∷ []) $ group ! 3 $ use1 W (raw ((Writes 𝓤 H A at-mem run) .pre (to-write n u))) (asked-write n u n-fits u-fits) $
             calls-at-last ! fm (Writes 𝓤 H A at-mem run) known-writes (to-write n u) (and-then ! (load ! (from ! (stop !)) (look ! 36 refl)) (and-then ! (load ! (from ! (stop !)) (look ! 16 refl)) (and-then ! (load ! (from ! (stop !)) (look ! 17 refl)) (no-more !)))) (λ v.
-            use1 W (later (some (λ (m : Answer). ((‵ (flft κ q) ⊛ ‵ ftrue) ⊛ ‵ (Answer-row.the-row .own m (v ∷ []))) ⊛ raw (ensured 𝓤 H A writes.ended (writes.clauses 𝓤 H A at-mem run) (κ, tt) (args-write n u) tt m)))) (id⊢ 𝓤 _) $ await ! tt $ pick ! (λ m.
+            use1 W (later (some (λ (m : Answered). ((‵ (flft κ q) ⊛ ‵ ftrue) ⊛ ‵ (Answered-row.the-row .own m (v ∷ []))) ⊛ raw (ensured 𝓤 H A writes.ended (writes.clauses 𝓤 H A at-mem run) (κ, tt) (args-write n u) tt m)))) (id⊢ 𝓤 _) $ await ! tt $ pick ! (λ m.
             split ! $ move ! (1 ∷ []) $ use1 W (some (λ (ws : Lasts writes.ended (κ, tt) (args-write n u)). ‵ (lasts writes.ended (κ, tt) (args-write n u) ws) ⊛ raw (fact 𝓤 ((ws .0 ≡ next (write n u)) × (m ≡ answer (write n u)))))) (id⊢ 𝓤 _) $ pick ! (λ ws.
             split ! $ move ! (1 ∷ []) $ heard ! ((ws .0 ≡ next (write n u)) × (m ≡ answer (write n u))) (λ d. fsplit ! $
-            move ! (2 ∷ []) $ split ! $ move ! (1 ∷ []) $ peeks ! Answer-row.the-row (Is Answer-row.the-row) (shows 𝓤 H A Answer-row.the-row) m (v ∷ []) (λ is. drop ! $ split ! $
-            land-last ! (from ! (stop !)) (init ! 33 refl (EL.lawful Answer-row.the-type Answer-row′.the-laws 𝓤 H A W tt .typed m _ is .0)) $ rewrite ! 33 (λ (u : Val). ‵ (fat fullShare Answer-row′.mir l23 0 u)) (ap only (EL.tells Answer-row.the-type Answer-row′.the-laws m _ is)) refl $
+            move ! (2 ∷ []) $ split ! $ move ! (1 ∷ []) $ peeks ! Answered-row.the-row (Is Answered-row.the-row) (shows 𝓤 H A Answered-row.the-row) m (v ∷ []) (λ is. drop ! $ split ! $
+            land-last ! (from ! (stop !)) (init ! 33 refl (LL.lawful Answered-row.the-type Answered-row′.the-laws 𝓤 H A W .typed m _ is .0)) $ rewrite ! 33 (λ (u : Val). ‵ (fat fullShare Answered-row′.mir l23 0 u)) (ap only (LL.tells Answered-row.the-type Answered-row′.the-laws m _ is)) refl $
             exec ! C Λ En pieces.t-2 (atRet En (Post call)) $ forget ! 19 refl $ forget ! 20 refl $ forget ! 39 refl $
             keep ! (2 ∷ 0 ∷ 7 ∷ 8 ∷ 9 ∷ 4 ∷ 10 ∷ 11 ∷ 12 ∷ 13 ∷ 14 ∷ 15 ∷ 16 ∷ 17 ∷ 18 ∷ 19 ∷ 20 ∷ 21 ∷ 22 ∷ 23 ∷ 24 ∷ 25 ∷ 26 ∷ 27 ∷ 28 ∷ 29 ∷ 30 ∷ 31 ∷ 32 ∷ 33 ∷ 34 ∷ 35 ∷ 36 ∷ 37 ∷ 38 ∷ 39 ∷ 40 ∷ 41 ∷ 42 ∷ 43 ∷ 44 ∷ 45 ∷ 46 ∷ 47 ∷ 48 ∷ 49 ∷ 50 ∷ 51 ∷ 52 ∷ 53 ∷ 54 ∷ 55 ∷ 56 ∷ 57 ∷ 58 ∷ 59 ∷ 60 ∷ 61 ∷ 62 ∷ 63 ∷ 64 ∷ 65 ∷ 66 ∷ 67 ∷ 68 ∷ 69 ∷ 70 ∷ 71 ∷ 72 ∷ 73 ∷ 74 ∷ 75 ∷ 76 ∷ 77 ∷ 78 ∷ 79 ∷ 80 ∷ 81 ∷ 82 ∷ 83 ∷ 84 ∷ 85 ∷ 86 ∷ 87 ∷ 88 ∷ 89 ∷ 90 ∷ 91 ∷ 92 ∷ 93 ∷ 94 ∷ 95 ∷ 96 ∷ 97 ∷ 98 ∷ 99 ∷ 100 ∷ 101 ∷ 102 ∷ 103 ∷ []) $ answered (ws .0) m room (d .0 ∙ ap next s, d .1 ∙ ap answer s, z) (answer-is m _ is) refl)))))
 
         -- what `Sync` changes is carried out
-        carried-sync : {y2 y11 y30 : Val} (x : Change) → Is S.the-row x (LL.val S.the-type S′.the-laws x ∷ []) → changed h x ≡ doneOf (stepOf h (stepFor call f room)) → (zs : List ℕ) → zs ≡ roomFor h call room → length zs ≡ length room → Sq W (‵ (fobs γ (T.the-row .coded .code h)) ∷ ‵ (fbor κ (Body (mem T.the-row) b o γ)) ∷ ‵ (flft κ q) ∷ ‵ Bytes ∷ ‵ (flft κ-f q-f) ∷ ‵ (flft κ-room q-room) ∷ ‵ (finally u8 γ-room zs) ∷ ‵ (froom Answer-row′.mir l0 0) ∷ ‵ (fat fullShare (tyRef (named 0) mut rec-ty) l1 0 (vptr b o)) ∷ ‵ (fat fullShare Call-row′.mir l2 0 y2) ∷ ‵ (fat fullShare (sliceTy (tyRef (named 1) imm (tyInt w8))) l3 0 s-f) ∷ ‵ (fat fullShare (sliceTy (tyRef (named 2) mut (tyInt w8))) l4 0 s-room) ∷ ‵ (froom (tyInt w8) l5 0) ∷ ‵ (froom Control-row′.mir l6 0) ∷ ‵ (froom (tyInt w64) l7 0) ∷ ‵ (froom Row′.mir l8 0) ∷ ‵ (froom (tyInt w8) l9 0) ∷ ‵ (froom (tyInt w8) l10 0) ∷ ‵ (fat fullShare Sync-row′.mir l11 0 y11) ∷ ‵ (fat fullShare out-ty l12 0 (LL.val S.the-type S′.the-laws x)) ∷ ‵ (froom out-ty l13 0) ∷ ‵ (froom (tyInt w8) l14 0) ∷ ‵ (froom Ruling-row′.mir l15 0) ∷ ‵ (froom (tyInt w64) l16 0) ∷ ‵ (froom Row′.mir l17 0) ∷ ‵ (froom out-ty l18 0) ∷ ‵ (froom tyBool l19 0) ∷ ‵ (froom Fault-row′.mir l20 0) ∷ ‵ (froom out-ty l21 0) ∷ ‵ (froom out-ty l22 0) ∷ ‵ (froom Answer-row′.mir l23 0) ∷ ‵ (froom T′.mir l24 0) ∷ ‵ (froom (tyInt w64) l25 0) ∷ ‵ (froom tyPtr l26 0) ∷ ‵ (froom tyPtr l27 0) ∷ ‵ (froom Row′.mir l28 0) ∷ ‵ (froom (tyRef erased mut rec-ty) l29 0) ∷ ‵ (fat fullShare T′.mir l30 0 y30) ∷ ‵ (froom (tyRef erased mut rec-ty) l31 0) ∷ ‵ (froom T′.mir l32 0) ∷ ‵ (froom (tyRef erased mut rec-ty) l33 0) ∷ ‵ (froom T′.mir l34 0) ∷ ‵ (froom (tyInt w64) l35 0) ∷ ‵ (froom tyPtr l36 0) ∷ ‵ (froom tyPtr l37 0) ∷ ‵ (froom Row′.mir l38 0) ∷ ‵ (froom (tyRef erased mut (tyInt w8)) l39 0) ∷ ‵ (froom (sliceTy (tyRef erased mut (tyInt w8))) l40 0) ∷ ‵ (froom (tyRef erased mut rec-ty) l41 0) ∷ ‵ (froom (tyRef erased mut rec-ty) l42 0) ∷ ‵ (froom T′.mir l43 0) ∷ ‵ (froom (tyRef erased mut rec-ty) l44 0) ∷ ‵ (froom T′.mir l45 0) ∷ ‵ (froom (tyRef erased mut rec-ty) l46 0) ∷ Dies) (runs C Λ En (carrying 31 12) (anyQ (Next call)))
+        carried-sync : {y2 y11 y30 : Val} (x : Change) → Is S.the-row x (LL.val S.the-type S′.the-laws x ∷ []) → changed h x ≡ doneOf (stepOf h (stepFor call f room)) → (zs : List ℕ) → zs ≡ roomFor h call room → length zs ≡ length room → Sq W (‵ (fobs γ (T.the-row .coded .code h)) ∷ ‵ (fbor κ (Body (mem T.the-row) b o γ)) ∷ ‵ (flft κ q) ∷ ‵ Bytes ∷ ‵ (flft κ-f q-f) ∷ ‵ (flft κ-room q-room) ∷ ‵ (finally u8 γ-room zs) ∷ ‵ (froom Answered-row′.mir l0 0) ∷ ‵ (fat fullShare (tyRef (named 0) mut rec-ty) l1 0 (vptr b o)) ∷ ‵ (fat fullShare Call-row′.mir l2 0 y2) ∷ ‵ (fat fullShare (sliceTy (tyRef (named 1) imm (tyInt w8))) l3 0 s-f) ∷ ‵ (fat fullShare (sliceTy (tyRef (named 2) mut (tyInt w8))) l4 0 s-room) ∷ ‵ (froom (tyInt w8) l5 0) ∷ ‵ (froom Control-row′.mir l6 0) ∷ ‵ (froom (tyInt w64) l7 0) ∷ ‵ (froom Row′.mir l8 0) ∷ ‵ (froom (tyInt w8) l9 0) ∷ ‵ (froom (tyInt w8) l10 0) ∷ ‵ (fat fullShare Sync-row′.mir l11 0 y11) ∷ ‵ (fat fullShare out-ty l12 0 (LL.val S.the-type S′.the-laws x)) ∷ ‵ (froom out-ty l13 0) ∷ ‵ (froom (tyInt w8) l14 0) ∷ ‵ (froom Ruling-row′.mir l15 0) ∷ ‵ (froom (tyInt w64) l16 0) ∷ ‵ (froom Row′.mir l17 0) ∷ ‵ (froom out-ty l18 0) ∷ ‵ (froom tyBool l19 0) ∷ ‵ (froom Fault-row′.mir l20 0) ∷ ‵ (froom out-ty l21 0) ∷ ‵ (froom out-ty l22 0) ∷ ‵ (froom Answered-row′.mir l23 0) ∷ ‵ (froom T′.mir l24 0) ∷ ‵ (froom (tyInt w64) l25 0) ∷ ‵ (froom tyPtr l26 0) ∷ ‵ (froom tyPtr l27 0) ∷ ‵ (froom Row′.mir l28 0) ∷ ‵ (froom (tyRef erased mut rec-ty) l29 0) ∷ ‵ (fat fullShare T′.mir l30 0 y30) ∷ ‵ (froom (tyRef erased mut rec-ty) l31 0) ∷ ‵ (froom T′.mir l32 0) ∷ ‵ (froom (tyRef erased mut rec-ty) l33 0) ∷ ‵ (froom T′.mir l34 0) ∷ ‵ (froom (tyInt w64) l35 0) ∷ ‵ (froom tyPtr l36 0) ∷ ‵ (froom tyPtr l37 0) ∷ ‵ (froom Row′.mir l38 0) ∷ ‵ (froom (tyRef erased mut (tyInt w8)) l39 0) ∷ ‵ (froom (sliceTy (tyRef erased mut (tyInt w8))) l40 0) ∷ ‵ (froom (tyRef erased mut rec-ty) l41 0) ∷ ‵ (froom (tyRef erased mut rec-ty) l42 0) ∷ ‵ (froom T′.mir l43 0) ∷ ‵ (froom (tyRef erased mut rec-ty) l44 0) ∷ ‵ (froom T′.mir l45 0) ∷ ‵ (froom (tyRef erased mut rec-ty) l46 0) ∷ Dies) (runs C Λ En (carrying 31 12) (anyQ (Next call)))
         carried-sync x x-is e zs z l =
             assigns ! (addr ! (from ! (hop ! (look ! 8 refl) (stop !)))) (from ! (stop !)) (init ! 38 refl (tt, tt)) $
             group ! 3 $ use1 W (raw ((Carries 𝓤 H A at-mem run) .pre (to-carry x))) (asked-carry x x-is) $
             calls-at-last ! fm (Carries 𝓤 H A at-mem run) known-carries (to-carry x) (and-then ! (load ! (from ! (stop !)) (look ! 36 refl)) (and-then ! (load ! (from ! (stop !)) (look ! 17 refl)) (no-more !))) (λ v.
-            use1 W (later (some (λ (m : Answer). ((‵ (flft κ q) ⊛ ‵ ftrue) ⊛ ‵ (Answer-row.the-row .own m (v ∷ []))) ⊛ raw (ensured 𝓤 H A carries.ended (carries.clauses 𝓤 H A at-mem run) (κ, tt) (args-carry x) tt m)))) (id⊢ 𝓤 _) $ await ! tt $ pick ! (λ m.
-            split ! $ move ! (1 ∷ []) $ use1 W (some (λ (ws : Lasts carries.ended (κ, tt) (args-carry x)). ‵ (lasts carries.ended (κ, tt) (args-carry x) ws) ⊛ raw (fact 𝓤 ((ws .0 ≡ changed h x .next) × (m ≡ x .answer))))) (id⊢ 𝓤 _) $ pick ! (λ ws.
-            split ! $ move ! (1 ∷ []) $ heard ! ((ws .0 ≡ changed h x .next) × (m ≡ x .answer)) (λ d. fsplit ! $
-            move ! (2 ∷ []) $ split ! $ move ! (1 ∷ []) $ peeks ! Answer-row.the-row (Is Answer-row.the-row) (shows 𝓤 H A Answer-row.the-row) m (v ∷ []) (λ is. drop ! $ split ! $
-            land-last ! (from ! (stop !)) (init ! 31 refl (EL.lawful Answer-row.the-type Answer-row′.the-laws 𝓤 H A W tt .typed m _ is .0)) $ rewrite ! 31 (λ (u : Val). ‵ (fat fullShare Answer-row′.mir l23 0 u)) (ap only (EL.tells Answer-row.the-type Answer-row′.the-laws m _ is)) refl $
+            use1 W (later (some (λ (m : Answered). ((‵ (flft κ q) ⊛ ‵ ftrue) ⊛ ‵ (Answered-row.the-row .own m (v ∷ []))) ⊛ raw (ensured 𝓤 H A carries.ended (carries.clauses 𝓤 H A at-mem run) (κ, tt) (args-carry x) tt m)))) (id⊢ 𝓤 _) $ await ! tt $ pick ! (λ m.
+            split ! $ move ! (1 ∷ []) $ use1 W (some (λ (ws : Lasts carries.ended (κ, tt) (args-carry x)). ‵ (lasts carries.ended (κ, tt) (args-carry x) ws) ⊛ raw (fact 𝓤 ((ws .0 ≡ changed h x .next) × (m ≡ x .answered))))) (id⊢ 𝓤 _) $ pick ! (λ ws.
+            split ! $ move ! (1 ∷ []) $ heard ! ((ws .0 ≡ changed h x .next) × (m ≡ x .answered)) (λ d. fsplit ! $
+            move ! (2 ∷ []) $ split ! $ move ! (1 ∷ []) $ peeks ! Answered-row.the-row (Is Answered-row.the-row) (shows 𝓤 H A Answered-row.the-row) m (v ∷ []) (λ is. drop ! $ split ! $
+            land-last ! (from ! (stop !)) (init ! 31 refl (LL.lawful Answered-row.the-type Answered-row′.the-laws 𝓤 H A W .typed m _ is .0)) $ rewrite ! 31 (λ (u : Val). ‵ (fat fullShare Answered-row′.mir l23 0 u)) (ap only (LL.tells Answered-row.the-type Answered-row′.the-laws m _ is)) refl $
             exec ! C Λ En pieces.t-2 (atRet En (Post call)) $ forget ! 19 refl $ forget ! 20 refl $ forget ! 38 refl $ forget ! 39 refl $
-            keep ! (2 ∷ 0 ∷ 4 ∷ 5 ∷ 6 ∷ 7 ∷ 8 ∷ 9 ∷ 10 ∷ 11 ∷ 12 ∷ 13 ∷ 14 ∷ 15 ∷ 16 ∷ 17 ∷ 18 ∷ 19 ∷ 20 ∷ 21 ∷ 22 ∷ 23 ∷ 24 ∷ 25 ∷ 26 ∷ 27 ∷ 28 ∷ 29 ∷ 30 ∷ 31 ∷ 32 ∷ 33 ∷ 34 ∷ 35 ∷ 36 ∷ 37 ∷ 38 ∷ 39 ∷ 40 ∷ 41 ∷ 42 ∷ 43 ∷ 44 ∷ 45 ∷ 46 ∷ 47 ∷ 48 ∷ 49 ∷ 50 ∷ 51 ∷ 52 ∷ 53 ∷ 54 ∷ 55 ∷ 56 ∷ 57 ∷ 58 ∷ 59 ∷ 60 ∷ 61 ∷ 62 ∷ 63 ∷ 64 ∷ 65 ∷ 66 ∷ 67 ∷ 68 ∷ 69 ∷ 70 ∷ 71 ∷ 72 ∷ 73 ∷ 74 ∷ 75 ∷ 76 ∷ 77 ∷ 78 ∷ 79 ∷ 80 ∷ 81 ∷ 82 ∷ 83 ∷ 84 ∷ 85 ∷ 86 ∷ 87 ∷ 88 ∷ 89 ∷ 90 ∷ 91 ∷ 92 ∷ 93 ∷ 94 ∷ 95 ∷ 96 ∷ 97 ∷ 98 ∷ 99 ∷ 100 ∷ 101 ∷ []) $ answered (ws .0) m zs (d .0 ∙ ap (λ (u : Done). u .next) e, d .1 ∙ ap (λ (u : Done). u .answer) e, z) (answer-is m _ is) l)))))
+            keep ! (2 ∷ 0 ∷ 4 ∷ 5 ∷ 6 ∷ 7 ∷ 8 ∷ 9 ∷ 10 ∷ 11 ∷ 12 ∷ 13 ∷ 14 ∷ 15 ∷ 16 ∷ 17 ∷ 18 ∷ 19 ∷ 20 ∷ 21 ∷ 22 ∷ 23 ∷ 24 ∷ 25 ∷ 26 ∷ 27 ∷ 28 ∷ 29 ∷ 30 ∷ 31 ∷ 32 ∷ 33 ∷ 34 ∷ 35 ∷ 36 ∷ 37 ∷ 38 ∷ 39 ∷ 40 ∷ 41 ∷ 42 ∷ 43 ∷ 44 ∷ 45 ∷ 46 ∷ 47 ∷ 48 ∷ 49 ∷ 50 ∷ 51 ∷ 52 ∷ 53 ∷ 54 ∷ 55 ∷ 56 ∷ 57 ∷ 58 ∷ 59 ∷ 60 ∷ 61 ∷ 62 ∷ 63 ∷ 64 ∷ 65 ∷ 66 ∷ 67 ∷ 68 ∷ 69 ∷ 70 ∷ 71 ∷ 72 ∷ 73 ∷ 74 ∷ 75 ∷ 76 ∷ 77 ∷ 78 ∷ 79 ∷ 80 ∷ 81 ∷ 82 ∷ 83 ∷ 84 ∷ 85 ∷ 86 ∷ 87 ∷ 88 ∷ 89 ∷ 90 ∷ 91 ∷ 92 ∷ 93 ∷ 94 ∷ 95 ∷ 96 ∷ 97 ∷ 98 ∷ 99 ∷ 100 ∷ 101 ∷ []) $ answered (ws .0) m zs (d .0 ∙ ap (λ (u : Done). u .next) e, d .1 ∙ ap answerIn e, z) (answer-is m _ is) l)))))
 
         -- Sync
-        on-sync : {y2 : Val} (k : SyncKind) → Is Sync-row.the-row k (EL.val Sync-row.the-type Sync-row′.the-laws k ∷ []) → sync k ≡ stepFor call f room → room ≡ roomFor h call room → Sq W (‵ Rec ∷ ‵ (flft κ q) ∷ ‵ Bytes ∷ ‵ (flft κ-f q-f) ∷ ‵ Room′ ∷ ‵ (flft κ-room q-room) ∷ ‵ (froom Answer-row′.mir l0 0) ∷ ‵ (fat fullShare (tyRef (named 0) mut rec-ty) l1 0 (vptr b o)) ∷ ‵ (fat fullShare Call-row′.mir l2 0 y2) ∷ ‵ (fat fullShare (sliceTy (tyRef (named 1) imm (tyInt w8))) l3 0 s-f) ∷ ‵ (fat fullShare (sliceTy (tyRef (named 2) mut (tyInt w8))) l4 0 s-room) ∷ ‵ (froom (tyInt w8) l5 0) ∷ ‵ (froom Control-row′.mir l6 0) ∷ ‵ (froom (tyInt w64) l7 0) ∷ ‵ (froom Row′.mir l8 0) ∷ ‵ (froom (tyInt w8) l9 0) ∷ ‵ (froom (tyInt w8) l10 0) ∷ ‵ (fat fullShare Sync-row′.mir l11 0 (EL.val Sync-row.the-type Sync-row′.the-laws k)) ∷ ‵ (froom out-ty l12 0) ∷ ‵ (froom out-ty l13 0) ∷ ‵ (froom (tyInt w8) l14 0) ∷ ‵ (froom Ruling-row′.mir l15 0) ∷ ‵ (froom (tyInt w64) l16 0) ∷ ‵ (froom Row′.mir l17 0) ∷ ‵ (froom out-ty l18 0) ∷ ‵ (froom tyBool l19 0) ∷ ‵ (froom Fault-row′.mir l20 0) ∷ ‵ (froom out-ty l21 0) ∷ ‵ (froom out-ty l22 0) ∷ ‵ (froom Answer-row′.mir l23 0) ∷ ‵ (froom T′.mir l24 0) ∷ ‵ (froom (tyInt w64) l25 0) ∷ ‵ (froom tyPtr l26 0) ∷ ‵ (froom tyPtr l27 0) ∷ ‵ (froom Row′.mir l28 0) ∷ ‵ (froom (tyRef erased mut rec-ty) l29 0) ∷ ‵ (froom T′.mir l30 0) ∷ ‵ (froom (tyRef erased mut rec-ty) l31 0) ∷ ‵ (froom T′.mir l32 0) ∷ ‵ (froom (tyRef erased mut rec-ty) l33 0) ∷ ‵ (froom T′.mir l34 0) ∷ ‵ (froom (tyInt w64) l35 0) ∷ ‵ (froom tyPtr l36 0) ∷ ‵ (froom tyPtr l37 0) ∷ ‵ (froom Row′.mir l38 0) ∷ ‵ (froom (tyRef erased mut (tyInt w8)) l39 0) ∷ ‵ (froom (sliceTy (tyRef erased mut (tyInt w8))) l40 0) ∷ ‵ (froom (tyRef erased mut rec-ty) l41 0) ∷ ‵ (froom (tyRef erased mut rec-ty) l42 0) ∷ ‵ (froom T′.mir l43 0) ∷ ‵ (froom (tyRef erased mut rec-ty) l44 0) ∷ ‵ (froom T′.mir l45 0) ∷ ‵ (froom (tyRef erased mut rec-ty) l46 0) ∷ Dies) (runs C Λ En code-sync (anyQ (Next call)))
+        on-sync : {y2 : Val} (k : SyncKind) → Is Sync-row.the-row k (EL.val Sync-row.the-type Sync-row′.the-laws k ∷ []) → sync k ≡ stepFor call f room → room ≡ roomFor h call room → Sq W (‵ Rec ∷ ‵ (flft κ q) ∷ ‵ Bytes ∷ ‵ (flft κ-f q-f) ∷ ‵ Room′ ∷ ‵ (flft κ-room q-room) ∷ ‵ (froom Answered-row′.mir l0 0) ∷ ‵ (fat fullShare (tyRef (named 0) mut rec-ty) l1 0 (vptr b o)) ∷ ‵ (fat fullShare Call-row′.mir l2 0 y2) ∷ ‵ (fat fullShare (sliceTy (tyRef (named 1) imm (tyInt w8))) l3 0 s-f) ∷ ‵ (fat fullShare (sliceTy (tyRef (named 2) mut (tyInt w8))) l4 0 s-room) ∷ ‵ (froom (tyInt w8) l5 0) ∷ ‵ (froom Control-row′.mir l6 0) ∷ ‵ (froom (tyInt w64) l7 0) ∷ ‵ (froom Row′.mir l8 0) ∷ ‵ (froom (tyInt w8) l9 0) ∷ ‵ (froom (tyInt w8) l10 0) ∷ ‵ (fat fullShare Sync-row′.mir l11 0 (EL.val Sync-row.the-type Sync-row′.the-laws k)) ∷ ‵ (froom out-ty l12 0) ∷ ‵ (froom out-ty l13 0) ∷ ‵ (froom (tyInt w8) l14 0) ∷ ‵ (froom Ruling-row′.mir l15 0) ∷ ‵ (froom (tyInt w64) l16 0) ∷ ‵ (froom Row′.mir l17 0) ∷ ‵ (froom out-ty l18 0) ∷ ‵ (froom tyBool l19 0) ∷ ‵ (froom Fault-row′.mir l20 0) ∷ ‵ (froom out-ty l21 0) ∷ ‵ (froom out-ty l22 0) ∷ ‵ (froom Answered-row′.mir l23 0) ∷ ‵ (froom T′.mir l24 0) ∷ ‵ (froom (tyInt w64) l25 0) ∷ ‵ (froom tyPtr l26 0) ∷ ‵ (froom tyPtr l27 0) ∷ ‵ (froom Row′.mir l28 0) ∷ ‵ (froom (tyRef erased mut rec-ty) l29 0) ∷ ‵ (froom T′.mir l30 0) ∷ ‵ (froom (tyRef erased mut rec-ty) l31 0) ∷ ‵ (froom T′.mir l32 0) ∷ ‵ (froom (tyRef erased mut rec-ty) l33 0) ∷ ‵ (froom T′.mir l34 0) ∷ ‵ (froom (tyInt w64) l35 0) ∷ ‵ (froom tyPtr l36 0) ∷ ‵ (froom tyPtr l37 0) ∷ ‵ (froom Row′.mir l38 0) ∷ ‵ (froom (tyRef erased mut (tyInt w8)) l39 0) ∷ ‵ (froom (sliceTy (tyRef erased mut (tyInt w8))) l40 0) ∷ ‵ (froom (tyRef erased mut rec-ty) l41 0) ∷ ‵ (froom (tyRef erased mut rec-ty) l42 0) ∷ ‵ (froom T′.mir l43 0) ∷ ‵ (froom (tyRef erased mut rec-ty) l44 0) ∷ ‵ (froom T′.mir l45 0) ∷ ‵ (froom (tyRef erased mut rec-ty) l46 0) ∷ Dies) (runs C Λ En code-sync (anyQ (Next call)))
         on-sync k k-is s z =
             fsplit3 ! $ drop ! $
             opens ! tt T.the-row {h = h} b o (λ vs. spelt ! T.the-row (Is T.the-row) (shows 𝓤 H A T.the-row) (LL.vals T.the-type T′.the-laws) (LL.tells T.the-type T′.the-laws) fullShare h vs b o $
@@ -631,21 +647,21 @@ module _ {M : Type 1} (𝓤 : URA M) (H : Heap 𝓤) (A : Atoms 𝓤) (W : Given
             keep ! (3 ∷ 4 ∷ 5 ∷ 6 ∷ 7 ∷ 8 ∷ 0 ∷ 9 ∷ 10 ∷ 11 ∷ 12 ∷ 13 ∷ 14 ∷ 15 ∷ 16 ∷ 17 ∷ 18 ∷ 19 ∷ 20 ∷ 21 ∷ 22 ∷ 23 ∷ 24 ∷ 25 ∷ 26 ∷ 27 ∷ 28 ∷ 29 ∷ 30 ∷ 31 ∷ 32 ∷ 33 ∷ 34 ∷ 35 ∷ 36 ∷ 37 ∷ 38 ∷ 39 ∷ 40 ∷ 41 ∷ 42 ∷ 43 ∷ 44 ∷ 45 ∷ 46 ∷ 47 ∷ 48 ∷ 49 ∷ 50 ∷ 51 ∷ 52 ∷ 53 ∷ 54 ∷ 55 ∷ 56 ∷ 57 ∷ 58 ∷ 59 ∷ 60 ∷ 61 ∷ 62 ∷ 63 ∷ 64 ∷ 65 ∷ 66 ∷ 67 ∷ 68 ∷ 69 ∷ 70 ∷ 71 ∷ 72 ∷ 73 ∷ 74 ∷ 75 ∷ 76 ∷ 77 ∷ 78 ∷ 79 ∷ 80 ∷ 81 ∷ 82 ∷ 83 ∷ 84 ∷ 85 ∷ 86 ∷ 87 ∷ 88 ∷ 89 ∷ 90 ∷ 91 ∷ 92 ∷ 93 ∷ 94 ∷ 95 ∷ 96 ∷ 97 ∷ 98 ∷ 99 ∷ 100 ∷ 101 ∷ 102 ∷ []) $ carried-sync x (change-is x _ is) (ap (changed h) e ∙ sync-changes h k ∙ ap (λ (s : Step). doneOf (stepOf h s)) s) room z refl)))))))
 
         -- what `SyncDue` changes is carried out
-        carried-syncdue : {y2 y32 : Val} (x : Change) → Is S.the-row x (LL.val S.the-type S′.the-laws x ∷ []) → changed h x ≡ doneOf (stepOf h (stepFor call f room)) → (zs : List ℕ) → zs ≡ roomFor h call room → length zs ≡ length room → Sq W (‵ (fobs γ (T.the-row .coded .code h)) ∷ ‵ (fbor κ (Body (mem T.the-row) b o γ)) ∷ ‵ (flft κ q) ∷ ‵ Bytes ∷ ‵ (flft κ-f q-f) ∷ ‵ (flft κ-room q-room) ∷ ‵ (finally u8 γ-room zs) ∷ ‵ (froom Answer-row′.mir l0 0) ∷ ‵ (fat fullShare (tyRef (named 0) mut rec-ty) l1 0 (vptr b o)) ∷ ‵ (fat fullShare Call-row′.mir l2 0 y2) ∷ ‵ (fat fullShare (sliceTy (tyRef (named 1) imm (tyInt w8))) l3 0 s-f) ∷ ‵ (fat fullShare (sliceTy (tyRef (named 2) mut (tyInt w8))) l4 0 s-room) ∷ ‵ (froom (tyInt w8) l5 0) ∷ ‵ (froom Control-row′.mir l6 0) ∷ ‵ (froom (tyInt w64) l7 0) ∷ ‵ (froom Row′.mir l8 0) ∷ ‵ (froom (tyInt w8) l9 0) ∷ ‵ (froom (tyInt w8) l10 0) ∷ ‵ (froom Sync-row′.mir l11 0) ∷ ‵ (froom out-ty l12 0) ∷ ‵ (fat fullShare out-ty l13 0 (LL.val S.the-type S′.the-laws x)) ∷ ‵ (froom (tyInt w8) l14 0) ∷ ‵ (froom Ruling-row′.mir l15 0) ∷ ‵ (froom (tyInt w64) l16 0) ∷ ‵ (froom Row′.mir l17 0) ∷ ‵ (froom out-ty l18 0) ∷ ‵ (froom tyBool l19 0) ∷ ‵ (froom Fault-row′.mir l20 0) ∷ ‵ (froom out-ty l21 0) ∷ ‵ (froom out-ty l22 0) ∷ ‵ (froom Answer-row′.mir l23 0) ∷ ‵ (froom T′.mir l24 0) ∷ ‵ (froom (tyInt w64) l25 0) ∷ ‵ (froom tyPtr l26 0) ∷ ‵ (froom tyPtr l27 0) ∷ ‵ (froom Row′.mir l28 0) ∷ ‵ (froom (tyRef erased mut rec-ty) l29 0) ∷ ‵ (froom T′.mir l30 0) ∷ ‵ (froom (tyRef erased mut rec-ty) l31 0) ∷ ‵ (fat fullShare T′.mir l32 0 y32) ∷ ‵ (froom (tyRef erased mut rec-ty) l33 0) ∷ ‵ (froom T′.mir l34 0) ∷ ‵ (froom (tyInt w64) l35 0) ∷ ‵ (froom tyPtr l36 0) ∷ ‵ (froom tyPtr l37 0) ∷ ‵ (froom Row′.mir l38 0) ∷ ‵ (froom (tyRef erased mut (tyInt w8)) l39 0) ∷ ‵ (froom (sliceTy (tyRef erased mut (tyInt w8))) l40 0) ∷ ‵ (froom (tyRef erased mut rec-ty) l41 0) ∷ ‵ (froom (tyRef erased mut rec-ty) l42 0) ∷ ‵ (froom T′.mir l43 0) ∷ ‵ (froom (tyRef erased mut rec-ty) l44 0) ∷ ‵ (froom T′.mir l45 0) ∷ ‵ (froom (tyRef erased mut rec-ty) l46 0) ∷ Dies) (runs C Λ En (carrying 33 13) (anyQ (Next call)))
+        carried-syncdue : {y2 y32 : Val} (x : Change) → Is S.the-row x (LL.val S.the-type S′.the-laws x ∷ []) → changed h x ≡ doneOf (stepOf h (stepFor call f room)) → (zs : List ℕ) → zs ≡ roomFor h call room → length zs ≡ length room → Sq W (‵ (fobs γ (T.the-row .coded .code h)) ∷ ‵ (fbor κ (Body (mem T.the-row) b o γ)) ∷ ‵ (flft κ q) ∷ ‵ Bytes ∷ ‵ (flft κ-f q-f) ∷ ‵ (flft κ-room q-room) ∷ ‵ (finally u8 γ-room zs) ∷ ‵ (froom Answered-row′.mir l0 0) ∷ ‵ (fat fullShare (tyRef (named 0) mut rec-ty) l1 0 (vptr b o)) ∷ ‵ (fat fullShare Call-row′.mir l2 0 y2) ∷ ‵ (fat fullShare (sliceTy (tyRef (named 1) imm (tyInt w8))) l3 0 s-f) ∷ ‵ (fat fullShare (sliceTy (tyRef (named 2) mut (tyInt w8))) l4 0 s-room) ∷ ‵ (froom (tyInt w8) l5 0) ∷ ‵ (froom Control-row′.mir l6 0) ∷ ‵ (froom (tyInt w64) l7 0) ∷ ‵ (froom Row′.mir l8 0) ∷ ‵ (froom (tyInt w8) l9 0) ∷ ‵ (froom (tyInt w8) l10 0) ∷ ‵ (froom Sync-row′.mir l11 0) ∷ ‵ (froom out-ty l12 0) ∷ ‵ (fat fullShare out-ty l13 0 (LL.val S.the-type S′.the-laws x)) ∷ ‵ (froom (tyInt w8) l14 0) ∷ ‵ (froom Ruling-row′.mir l15 0) ∷ ‵ (froom (tyInt w64) l16 0) ∷ ‵ (froom Row′.mir l17 0) ∷ ‵ (froom out-ty l18 0) ∷ ‵ (froom tyBool l19 0) ∷ ‵ (froom Fault-row′.mir l20 0) ∷ ‵ (froom out-ty l21 0) ∷ ‵ (froom out-ty l22 0) ∷ ‵ (froom Answered-row′.mir l23 0) ∷ ‵ (froom T′.mir l24 0) ∷ ‵ (froom (tyInt w64) l25 0) ∷ ‵ (froom tyPtr l26 0) ∷ ‵ (froom tyPtr l27 0) ∷ ‵ (froom Row′.mir l28 0) ∷ ‵ (froom (tyRef erased mut rec-ty) l29 0) ∷ ‵ (froom T′.mir l30 0) ∷ ‵ (froom (tyRef erased mut rec-ty) l31 0) ∷ ‵ (fat fullShare T′.mir l32 0 y32) ∷ ‵ (froom (tyRef erased mut rec-ty) l33 0) ∷ ‵ (froom T′.mir l34 0) ∷ ‵ (froom (tyInt w64) l35 0) ∷ ‵ (froom tyPtr l36 0) ∷ ‵ (froom tyPtr l37 0) ∷ ‵ (froom Row′.mir l38 0) ∷ ‵ (froom (tyRef erased mut (tyInt w8)) l39 0) ∷ ‵ (froom (sliceTy (tyRef erased mut (tyInt w8))) l40 0) ∷ ‵ (froom (tyRef erased mut rec-ty) l41 0) ∷ ‵ (froom (tyRef erased mut rec-ty) l42 0) ∷ ‵ (froom T′.mir l43 0) ∷ ‵ (froom (tyRef erased mut rec-ty) l44 0) ∷ ‵ (froom T′.mir l45 0) ∷ ‵ (froom (tyRef erased mut rec-ty) l46 0) ∷ Dies) (runs C Λ En (carrying 33 13) (anyQ (Next call)))
         carried-syncdue x x-is e zs z l =
             assigns ! (addr ! (from ! (hop ! (look ! 8 refl) (stop !)))) (from ! (stop !)) (init ! 40 refl (tt, tt)) $
             group ! 3 $ use1 W (raw ((Carries 𝓤 H A at-mem run) .pre (to-carry x))) (asked-carry x x-is) $
             calls-at-last ! fm (Carries 𝓤 H A at-mem run) known-carries (to-carry x) (and-then ! (load ! (from ! (stop !)) (look ! 38 refl)) (and-then ! (load ! (from ! (stop !)) (look ! 18 refl)) (no-more !))) (λ v.
-            use1 W (later (some (λ (m : Answer). ((‵ (flft κ q) ⊛ ‵ ftrue) ⊛ ‵ (Answer-row.the-row .own m (v ∷ []))) ⊛ raw (ensured 𝓤 H A carries.ended (carries.clauses 𝓤 H A at-mem run) (κ, tt) (args-carry x) tt m)))) (id⊢ 𝓤 _) $ await ! tt $ pick ! (λ m.
-            split ! $ move ! (1 ∷ []) $ use1 W (some (λ (ws : Lasts carries.ended (κ, tt) (args-carry x)). ‵ (lasts carries.ended (κ, tt) (args-carry x) ws) ⊛ raw (fact 𝓤 ((ws .0 ≡ changed h x .next) × (m ≡ x .answer))))) (id⊢ 𝓤 _) $ pick ! (λ ws.
-            split ! $ move ! (1 ∷ []) $ heard ! ((ws .0 ≡ changed h x .next) × (m ≡ x .answer)) (λ d. fsplit ! $
-            move ! (2 ∷ []) $ split ! $ move ! (1 ∷ []) $ peeks ! Answer-row.the-row (Is Answer-row.the-row) (shows 𝓤 H A Answer-row.the-row) m (v ∷ []) (λ is. drop ! $ split ! $
-            land-last ! (from ! (stop !)) (init ! 31 refl (EL.lawful Answer-row.the-type Answer-row′.the-laws 𝓤 H A W tt .typed m _ is .0)) $ rewrite ! 31 (λ (u : Val). ‵ (fat fullShare Answer-row′.mir l23 0 u)) (ap only (EL.tells Answer-row.the-type Answer-row′.the-laws m _ is)) refl $
+            use1 W (later (some (λ (m : Answered). ((‵ (flft κ q) ⊛ ‵ ftrue) ⊛ ‵ (Answered-row.the-row .own m (v ∷ []))) ⊛ raw (ensured 𝓤 H A carries.ended (carries.clauses 𝓤 H A at-mem run) (κ, tt) (args-carry x) tt m)))) (id⊢ 𝓤 _) $ await ! tt $ pick ! (λ m.
+            split ! $ move ! (1 ∷ []) $ use1 W (some (λ (ws : Lasts carries.ended (κ, tt) (args-carry x)). ‵ (lasts carries.ended (κ, tt) (args-carry x) ws) ⊛ raw (fact 𝓤 ((ws .0 ≡ changed h x .next) × (m ≡ x .answered))))) (id⊢ 𝓤 _) $ pick ! (λ ws.
+            split ! $ move ! (1 ∷ []) $ heard ! ((ws .0 ≡ changed h x .next) × (m ≡ x .answered)) (λ d. fsplit ! $
+            move ! (2 ∷ []) $ split ! $ move ! (1 ∷ []) $ peeks ! Answered-row.the-row (Is Answered-row.the-row) (shows 𝓤 H A Answered-row.the-row) m (v ∷ []) (λ is. drop ! $ split ! $
+            land-last ! (from ! (stop !)) (init ! 31 refl (LL.lawful Answered-row.the-type Answered-row′.the-laws 𝓤 H A W .typed m _ is .0)) $ rewrite ! 31 (λ (u : Val). ‵ (fat fullShare Answered-row′.mir l23 0 u)) (ap only (LL.tells Answered-row.the-type Answered-row′.the-laws m _ is)) refl $
             exec ! C Λ En pieces.t-2 (atRet En (Post call)) $ forget ! 21 refl $ forget ! 40 refl $ forget ! 41 refl $
-            keep ! (2 ∷ 0 ∷ 4 ∷ 5 ∷ 6 ∷ 7 ∷ 8 ∷ 9 ∷ 10 ∷ 11 ∷ 12 ∷ 13 ∷ 14 ∷ 15 ∷ 16 ∷ 17 ∷ 18 ∷ 19 ∷ 20 ∷ 21 ∷ 22 ∷ 23 ∷ 24 ∷ 25 ∷ 26 ∷ 27 ∷ 28 ∷ 29 ∷ 30 ∷ 31 ∷ 32 ∷ 33 ∷ 34 ∷ 35 ∷ 36 ∷ 37 ∷ 38 ∷ 39 ∷ 40 ∷ 41 ∷ 42 ∷ 43 ∷ 44 ∷ 45 ∷ 46 ∷ 47 ∷ 48 ∷ 49 ∷ 50 ∷ 51 ∷ 52 ∷ 53 ∷ 54 ∷ 55 ∷ 56 ∷ 57 ∷ 58 ∷ 59 ∷ 60 ∷ 61 ∷ 62 ∷ 63 ∷ 64 ∷ 65 ∷ 66 ∷ 67 ∷ 68 ∷ 69 ∷ 70 ∷ 71 ∷ 72 ∷ 73 ∷ 74 ∷ 75 ∷ 76 ∷ 77 ∷ 78 ∷ 79 ∷ 80 ∷ 81 ∷ 82 ∷ 83 ∷ 84 ∷ 85 ∷ 86 ∷ 87 ∷ 88 ∷ 89 ∷ 90 ∷ 91 ∷ 92 ∷ 93 ∷ 94 ∷ 95 ∷ 96 ∷ 97 ∷ 98 ∷ 99 ∷ 100 ∷ 101 ∷ []) $ answered (ws .0) m zs (d .0 ∙ ap (λ (u : Done). u .next) e, d .1 ∙ ap (λ (u : Done). u .answer) e, z) (answer-is m _ is) l)))))
+            keep ! (2 ∷ 0 ∷ 4 ∷ 5 ∷ 6 ∷ 7 ∷ 8 ∷ 9 ∷ 10 ∷ 11 ∷ 12 ∷ 13 ∷ 14 ∷ 15 ∷ 16 ∷ 17 ∷ 18 ∷ 19 ∷ 20 ∷ 21 ∷ 22 ∷ 23 ∷ 24 ∷ 25 ∷ 26 ∷ 27 ∷ 28 ∷ 29 ∷ 30 ∷ 31 ∷ 32 ∷ 33 ∷ 34 ∷ 35 ∷ 36 ∷ 37 ∷ 38 ∷ 39 ∷ 40 ∷ 41 ∷ 42 ∷ 43 ∷ 44 ∷ 45 ∷ 46 ∷ 47 ∷ 48 ∷ 49 ∷ 50 ∷ 51 ∷ 52 ∷ 53 ∷ 54 ∷ 55 ∷ 56 ∷ 57 ∷ 58 ∷ 59 ∷ 60 ∷ 61 ∷ 62 ∷ 63 ∷ 64 ∷ 65 ∷ 66 ∷ 67 ∷ 68 ∷ 69 ∷ 70 ∷ 71 ∷ 72 ∷ 73 ∷ 74 ∷ 75 ∷ 76 ∷ 77 ∷ 78 ∷ 79 ∷ 80 ∷ 81 ∷ 82 ∷ 83 ∷ 84 ∷ 85 ∷ 86 ∷ 87 ∷ 88 ∷ 89 ∷ 90 ∷ 91 ∷ 92 ∷ 93 ∷ 94 ∷ 95 ∷ 96 ∷ 97 ∷ 98 ∷ 99 ∷ 100 ∷ 101 ∷ []) $ answered (ws .0) m zs (d .0 ∙ ap (λ (u : Done). u .next) e, d .1 ∙ ap answerIn e, z) (answer-is m _ is) l)))))
 
         -- SyncDue
-        on-syncdue : {y2 : Val} → syncDue ≡ stepFor call f room → room ≡ roomFor h call room → Sq W (‵ Rec ∷ ‵ (flft κ q) ∷ ‵ Bytes ∷ ‵ (flft κ-f q-f) ∷ ‵ Room′ ∷ ‵ (flft κ-room q-room) ∷ ‵ (froom Answer-row′.mir l0 0) ∷ ‵ (fat fullShare (tyRef (named 0) mut rec-ty) l1 0 (vptr b o)) ∷ ‵ (fat fullShare Call-row′.mir l2 0 y2) ∷ ‵ (fat fullShare (sliceTy (tyRef (named 1) imm (tyInt w8))) l3 0 s-f) ∷ ‵ (fat fullShare (sliceTy (tyRef (named 2) mut (tyInt w8))) l4 0 s-room) ∷ ‵ (froom (tyInt w8) l5 0) ∷ ‵ (froom Control-row′.mir l6 0) ∷ ‵ (froom (tyInt w64) l7 0) ∷ ‵ (froom Row′.mir l8 0) ∷ ‵ (froom (tyInt w8) l9 0) ∷ ‵ (froom (tyInt w8) l10 0) ∷ ‵ (froom Sync-row′.mir l11 0) ∷ ‵ (froom out-ty l12 0) ∷ ‵ (froom out-ty l13 0) ∷ ‵ (froom (tyInt w8) l14 0) ∷ ‵ (froom Ruling-row′.mir l15 0) ∷ ‵ (froom (tyInt w64) l16 0) ∷ ‵ (froom Row′.mir l17 0) ∷ ‵ (froom out-ty l18 0) ∷ ‵ (froom tyBool l19 0) ∷ ‵ (froom Fault-row′.mir l20 0) ∷ ‵ (froom out-ty l21 0) ∷ ‵ (froom out-ty l22 0) ∷ ‵ (froom Answer-row′.mir l23 0) ∷ ‵ (froom T′.mir l24 0) ∷ ‵ (froom (tyInt w64) l25 0) ∷ ‵ (froom tyPtr l26 0) ∷ ‵ (froom tyPtr l27 0) ∷ ‵ (froom Row′.mir l28 0) ∷ ‵ (froom (tyRef erased mut rec-ty) l29 0) ∷ ‵ (froom T′.mir l30 0) ∷ ‵ (froom (tyRef erased mut rec-ty) l31 0) ∷ ‵ (froom T′.mir l32 0) ∷ ‵ (froom (tyRef erased mut rec-ty) l33 0) ∷ ‵ (froom T′.mir l34 0) ∷ ‵ (froom (tyInt w64) l35 0) ∷ ‵ (froom tyPtr l36 0) ∷ ‵ (froom tyPtr l37 0) ∷ ‵ (froom Row′.mir l38 0) ∷ ‵ (froom (tyRef erased mut (tyInt w8)) l39 0) ∷ ‵ (froom (sliceTy (tyRef erased mut (tyInt w8))) l40 0) ∷ ‵ (froom (tyRef erased mut rec-ty) l41 0) ∷ ‵ (froom (tyRef erased mut rec-ty) l42 0) ∷ ‵ (froom T′.mir l43 0) ∷ ‵ (froom (tyRef erased mut rec-ty) l44 0) ∷ ‵ (froom T′.mir l45 0) ∷ ‵ (froom (tyRef erased mut rec-ty) l46 0) ∷ Dies) (runs C Λ En code-syncdue (anyQ (Next call)))
+        on-syncdue : {y2 : Val} → syncDue ≡ stepFor call f room → room ≡ roomFor h call room → Sq W (‵ Rec ∷ ‵ (flft κ q) ∷ ‵ Bytes ∷ ‵ (flft κ-f q-f) ∷ ‵ Room′ ∷ ‵ (flft κ-room q-room) ∷ ‵ (froom Answered-row′.mir l0 0) ∷ ‵ (fat fullShare (tyRef (named 0) mut rec-ty) l1 0 (vptr b o)) ∷ ‵ (fat fullShare Call-row′.mir l2 0 y2) ∷ ‵ (fat fullShare (sliceTy (tyRef (named 1) imm (tyInt w8))) l3 0 s-f) ∷ ‵ (fat fullShare (sliceTy (tyRef (named 2) mut (tyInt w8))) l4 0 s-room) ∷ ‵ (froom (tyInt w8) l5 0) ∷ ‵ (froom Control-row′.mir l6 0) ∷ ‵ (froom (tyInt w64) l7 0) ∷ ‵ (froom Row′.mir l8 0) ∷ ‵ (froom (tyInt w8) l9 0) ∷ ‵ (froom (tyInt w8) l10 0) ∷ ‵ (froom Sync-row′.mir l11 0) ∷ ‵ (froom out-ty l12 0) ∷ ‵ (froom out-ty l13 0) ∷ ‵ (froom (tyInt w8) l14 0) ∷ ‵ (froom Ruling-row′.mir l15 0) ∷ ‵ (froom (tyInt w64) l16 0) ∷ ‵ (froom Row′.mir l17 0) ∷ ‵ (froom out-ty l18 0) ∷ ‵ (froom tyBool l19 0) ∷ ‵ (froom Fault-row′.mir l20 0) ∷ ‵ (froom out-ty l21 0) ∷ ‵ (froom out-ty l22 0) ∷ ‵ (froom Answered-row′.mir l23 0) ∷ ‵ (froom T′.mir l24 0) ∷ ‵ (froom (tyInt w64) l25 0) ∷ ‵ (froom tyPtr l26 0) ∷ ‵ (froom tyPtr l27 0) ∷ ‵ (froom Row′.mir l28 0) ∷ ‵ (froom (tyRef erased mut rec-ty) l29 0) ∷ ‵ (froom T′.mir l30 0) ∷ ‵ (froom (tyRef erased mut rec-ty) l31 0) ∷ ‵ (froom T′.mir l32 0) ∷ ‵ (froom (tyRef erased mut rec-ty) l33 0) ∷ ‵ (froom T′.mir l34 0) ∷ ‵ (froom (tyInt w64) l35 0) ∷ ‵ (froom tyPtr l36 0) ∷ ‵ (froom tyPtr l37 0) ∷ ‵ (froom Row′.mir l38 0) ∷ ‵ (froom (tyRef erased mut (tyInt w8)) l39 0) ∷ ‵ (froom (sliceTy (tyRef erased mut (tyInt w8))) l40 0) ∷ ‵ (froom (tyRef erased mut rec-ty) l41 0) ∷ ‵ (froom (tyRef erased mut rec-ty) l42 0) ∷ ‵ (froom T′.mir l43 0) ∷ ‵ (froom (tyRef erased mut rec-ty) l44 0) ∷ ‵ (froom T′.mir l45 0) ∷ ‵ (froom (tyRef erased mut rec-ty) l46 0) ∷ Dies) (runs C Λ En code-syncdue (anyQ (Next call)))
         on-syncdue s z =
             fsplit3 ! $ drop ! $
             opens ! tt T.the-row {h = h} b o (λ vs. spelt ! T.the-row (Is T.the-row) (shows 𝓤 H A T.the-row) (LL.vals T.the-type T′.the-laws) (LL.tells T.the-type T′.the-laws) fullShare h vs b o $
@@ -664,21 +680,21 @@ module _ {M : Type 1} (𝓤 : URA M) (H : Heap 𝓤) (A : Atoms 𝓤) (W : Given
             keep ! (3 ∷ 4 ∷ 5 ∷ 6 ∷ 7 ∷ 8 ∷ 0 ∷ 9 ∷ 10 ∷ 11 ∷ 12 ∷ 13 ∷ 14 ∷ 15 ∷ 16 ∷ 17 ∷ 18 ∷ 19 ∷ 20 ∷ 21 ∷ 22 ∷ 23 ∷ 24 ∷ 25 ∷ 26 ∷ 27 ∷ 28 ∷ 29 ∷ 30 ∷ 31 ∷ 32 ∷ 33 ∷ 34 ∷ 35 ∷ 36 ∷ 37 ∷ 38 ∷ 39 ∷ 40 ∷ 41 ∷ 42 ∷ 43 ∷ 44 ∷ 45 ∷ 46 ∷ 47 ∷ 48 ∷ 49 ∷ 50 ∷ 51 ∷ 52 ∷ 53 ∷ 54 ∷ 55 ∷ 56 ∷ 57 ∷ 58 ∷ 59 ∷ 60 ∷ 61 ∷ 62 ∷ 63 ∷ 64 ∷ 65 ∷ 66 ∷ 67 ∷ 68 ∷ 69 ∷ 70 ∷ 71 ∷ 72 ∷ 73 ∷ 74 ∷ 75 ∷ 76 ∷ 77 ∷ 78 ∷ 79 ∷ 80 ∷ 81 ∷ 82 ∷ 83 ∷ 84 ∷ 85 ∷ 86 ∷ 87 ∷ 88 ∷ 89 ∷ 90 ∷ 91 ∷ 92 ∷ 93 ∷ 94 ∷ 95 ∷ 96 ∷ 97 ∷ 98 ∷ 99 ∷ 100 ∷ 101 ∷ 102 ∷ []) $ carried-syncdue x (change-is x _ is) (ap (changed h) e ∙ sync-due-changes h ∙ ap (λ (s : Step). doneOf (stepOf h s)) s) room z refl)))))))
 
         -- what `Slot` changes is carried out
-        carried-slot : {y2 y14 y34 y39 y40 y15 y16 y17 y35 y36 y37 y38 : Val} (x : Change) → Is S.the-row x (LL.val S.the-type S′.the-laws x ∷ []) → changed h x ≡ doneOf (stepOf h (stepFor call f room)) → (zs : List ℕ) → zs ≡ roomFor h call room → length zs ≡ length room → Sq W (‵ (fobs γ (T.the-row .coded .code h)) ∷ ‵ (fbor κ (Body (mem T.the-row) b o γ)) ∷ ‵ (flft κ q) ∷ ‵ Bytes ∷ ‵ (flft κ-f q-f) ∷ ‵ (flft κ-room q-room) ∷ ‵ (finally u8 γ-room zs) ∷ ‵ (froom Answer-row′.mir l0 0) ∷ ‵ (fat fullShare (tyRef (named 0) mut rec-ty) l1 0 (vptr b o)) ∷ ‵ (fat fullShare Call-row′.mir l2 0 y2) ∷ ‵ (fat fullShare (sliceTy (tyRef (named 1) imm (tyInt w8))) l3 0 s-f) ∷ ‵ (fat fullShare (sliceTy (tyRef (named 2) mut (tyInt w8))) l4 0 s-room) ∷ ‵ (froom (tyInt w8) l5 0) ∷ ‵ (froom Control-row′.mir l6 0) ∷ ‵ (froom (tyInt w64) l7 0) ∷ ‵ (froom Row′.mir l8 0) ∷ ‵ (froom (tyInt w8) l9 0) ∷ ‵ (froom (tyInt w8) l10 0) ∷ ‵ (froom Sync-row′.mir l11 0) ∷ ‵ (froom out-ty l12 0) ∷ ‵ (froom out-ty l13 0) ∷ ‵ (fat fullShare (tyInt w8) l14 0 y14) ∷ ‵ (fat fullShare Ruling-row′.mir l15 0 y15) ∷ ‵ (fat fullShare (tyInt w64) l16 0 y16) ∷ ‵ (fat fullShare Row′.mir l17 0 y17) ∷ ‵ (fat fullShare out-ty l18 0 (LL.val S.the-type S′.the-laws x)) ∷ ‵ (froom tyBool l19 0) ∷ ‵ (froom Fault-row′.mir l20 0) ∷ ‵ (froom out-ty l21 0) ∷ ‵ (froom out-ty l22 0) ∷ ‵ (froom Answer-row′.mir l23 0) ∷ ‵ (froom T′.mir l24 0) ∷ ‵ (froom (tyInt w64) l25 0) ∷ ‵ (froom tyPtr l26 0) ∷ ‵ (froom tyPtr l27 0) ∷ ‵ (froom Row′.mir l28 0) ∷ ‵ (froom (tyRef erased mut rec-ty) l29 0) ∷ ‵ (froom T′.mir l30 0) ∷ ‵ (froom (tyRef erased mut rec-ty) l31 0) ∷ ‵ (froom T′.mir l32 0) ∷ ‵ (froom (tyRef erased mut rec-ty) l33 0) ∷ ‵ (fat fullShare T′.mir l34 0 y34) ∷ ‵ (fat fullShare (tyInt w64) l35 0 y35) ∷ ‵ (fat fullShare tyPtr l36 0 y36) ∷ ‵ (fat fullShare tyPtr l37 0 y37) ∷ ‵ (fat fullShare Row′.mir l38 0 y38) ∷ ‵ (fat fullShare (tyRef erased mut (tyInt w8)) l39 0 y39) ∷ ‵ (fat fullShare (sliceTy (tyRef erased mut (tyInt w8))) l40 0 y40) ∷ ‵ (froom (tyRef erased mut rec-ty) l41 0) ∷ ‵ (froom (tyRef erased mut rec-ty) l42 0) ∷ ‵ (froom T′.mir l43 0) ∷ ‵ (froom (tyRef erased mut rec-ty) l44 0) ∷ ‵ (froom T′.mir l45 0) ∷ ‵ (froom (tyRef erased mut rec-ty) l46 0) ∷ Dies) (runs C Λ En (carrying 41 18) (anyQ (Next call)))
+        carried-slot : {y2 y14 y34 y39 y40 y15 y16 y17 y35 y36 y37 y38 : Val} (x : Change) → Is S.the-row x (LL.val S.the-type S′.the-laws x ∷ []) → changed h x ≡ doneOf (stepOf h (stepFor call f room)) → (zs : List ℕ) → zs ≡ roomFor h call room → length zs ≡ length room → Sq W (‵ (fobs γ (T.the-row .coded .code h)) ∷ ‵ (fbor κ (Body (mem T.the-row) b o γ)) ∷ ‵ (flft κ q) ∷ ‵ Bytes ∷ ‵ (flft κ-f q-f) ∷ ‵ (flft κ-room q-room) ∷ ‵ (finally u8 γ-room zs) ∷ ‵ (froom Answered-row′.mir l0 0) ∷ ‵ (fat fullShare (tyRef (named 0) mut rec-ty) l1 0 (vptr b o)) ∷ ‵ (fat fullShare Call-row′.mir l2 0 y2) ∷ ‵ (fat fullShare (sliceTy (tyRef (named 1) imm (tyInt w8))) l3 0 s-f) ∷ ‵ (fat fullShare (sliceTy (tyRef (named 2) mut (tyInt w8))) l4 0 s-room) ∷ ‵ (froom (tyInt w8) l5 0) ∷ ‵ (froom Control-row′.mir l6 0) ∷ ‵ (froom (tyInt w64) l7 0) ∷ ‵ (froom Row′.mir l8 0) ∷ ‵ (froom (tyInt w8) l9 0) ∷ ‵ (froom (tyInt w8) l10 0) ∷ ‵ (froom Sync-row′.mir l11 0) ∷ ‵ (froom out-ty l12 0) ∷ ‵ (froom out-ty l13 0) ∷ ‵ (fat fullShare (tyInt w8) l14 0 y14) ∷ ‵ (fat fullShare Ruling-row′.mir l15 0 y15) ∷ ‵ (fat fullShare (tyInt w64) l16 0 y16) ∷ ‵ (fat fullShare Row′.mir l17 0 y17) ∷ ‵ (fat fullShare out-ty l18 0 (LL.val S.the-type S′.the-laws x)) ∷ ‵ (froom tyBool l19 0) ∷ ‵ (froom Fault-row′.mir l20 0) ∷ ‵ (froom out-ty l21 0) ∷ ‵ (froom out-ty l22 0) ∷ ‵ (froom Answered-row′.mir l23 0) ∷ ‵ (froom T′.mir l24 0) ∷ ‵ (froom (tyInt w64) l25 0) ∷ ‵ (froom tyPtr l26 0) ∷ ‵ (froom tyPtr l27 0) ∷ ‵ (froom Row′.mir l28 0) ∷ ‵ (froom (tyRef erased mut rec-ty) l29 0) ∷ ‵ (froom T′.mir l30 0) ∷ ‵ (froom (tyRef erased mut rec-ty) l31 0) ∷ ‵ (froom T′.mir l32 0) ∷ ‵ (froom (tyRef erased mut rec-ty) l33 0) ∷ ‵ (fat fullShare T′.mir l34 0 y34) ∷ ‵ (fat fullShare (tyInt w64) l35 0 y35) ∷ ‵ (fat fullShare tyPtr l36 0 y36) ∷ ‵ (fat fullShare tyPtr l37 0 y37) ∷ ‵ (fat fullShare Row′.mir l38 0 y38) ∷ ‵ (fat fullShare (tyRef erased mut (tyInt w8)) l39 0 y39) ∷ ‵ (fat fullShare (sliceTy (tyRef erased mut (tyInt w8))) l40 0 y40) ∷ ‵ (froom (tyRef erased mut rec-ty) l41 0) ∷ ‵ (froom (tyRef erased mut rec-ty) l42 0) ∷ ‵ (froom T′.mir l43 0) ∷ ‵ (froom (tyRef erased mut rec-ty) l44 0) ∷ ‵ (froom T′.mir l45 0) ∷ ‵ (froom (tyRef erased mut rec-ty) l46 0) ∷ Dies) (runs C Λ En (carrying 41 18) (anyQ (Next call)))
         carried-slot x x-is e zs z l =
             assigns ! (addr ! (from ! (hop ! (look ! 8 refl) (stop !)))) (from ! (stop !)) (init ! 48 refl (tt, tt)) $
             group ! 3 $ use1 W (raw ((Carries 𝓤 H A at-mem run) .pre (to-carry x))) (asked-carry x x-is) $
             calls-at-last ! fm (Carries 𝓤 H A at-mem run) known-carries (to-carry x) (and-then ! (load ! (from ! (stop !)) (look ! 46 refl)) (and-then ! (load ! (from ! (stop !)) (look ! 23 refl)) (no-more !))) (λ v.
-            use1 W (later (some (λ (m : Answer). ((‵ (flft κ q) ⊛ ‵ ftrue) ⊛ ‵ (Answer-row.the-row .own m (v ∷ []))) ⊛ raw (ensured 𝓤 H A carries.ended (carries.clauses 𝓤 H A at-mem run) (κ, tt) (args-carry x) tt m)))) (id⊢ 𝓤 _) $ await ! tt $ pick ! (λ m.
-            split ! $ move ! (1 ∷ []) $ use1 W (some (λ (ws : Lasts carries.ended (κ, tt) (args-carry x)). ‵ (lasts carries.ended (κ, tt) (args-carry x) ws) ⊛ raw (fact 𝓤 ((ws .0 ≡ changed h x .next) × (m ≡ x .answer))))) (id⊢ 𝓤 _) $ pick ! (λ ws.
-            split ! $ move ! (1 ∷ []) $ heard ! ((ws .0 ≡ changed h x .next) × (m ≡ x .answer)) (λ d. fsplit ! $
-            move ! (2 ∷ []) $ split ! $ move ! (1 ∷ []) $ peeks ! Answer-row.the-row (Is Answer-row.the-row) (shows 𝓤 H A Answer-row.the-row) m (v ∷ []) (λ is. drop ! $ split ! $
-            land-last ! (from ! (stop !)) (init ! 31 refl (EL.lawful Answer-row.the-type Answer-row′.the-laws 𝓤 H A W tt .typed m _ is .0)) $ rewrite ! 31 (λ (u : Val). ‵ (fat fullShare Answer-row′.mir l23 0 u)) (ap only (EL.tells Answer-row.the-type Answer-row′.the-laws m _ is)) refl $
+            use1 W (later (some (λ (m : Answered). ((‵ (flft κ q) ⊛ ‵ ftrue) ⊛ ‵ (Answered-row.the-row .own m (v ∷ []))) ⊛ raw (ensured 𝓤 H A carries.ended (carries.clauses 𝓤 H A at-mem run) (κ, tt) (args-carry x) tt m)))) (id⊢ 𝓤 _) $ await ! tt $ pick ! (λ m.
+            split ! $ move ! (1 ∷ []) $ use1 W (some (λ (ws : Lasts carries.ended (κ, tt) (args-carry x)). ‵ (lasts carries.ended (κ, tt) (args-carry x) ws) ⊛ raw (fact 𝓤 ((ws .0 ≡ changed h x .next) × (m ≡ x .answered))))) (id⊢ 𝓤 _) $ pick ! (λ ws.
+            split ! $ move ! (1 ∷ []) $ heard ! ((ws .0 ≡ changed h x .next) × (m ≡ x .answered)) (λ d. fsplit ! $
+            move ! (2 ∷ []) $ split ! $ move ! (1 ∷ []) $ peeks ! Answered-row.the-row (Is Answered-row.the-row) (shows 𝓤 H A Answered-row.the-row) m (v ∷ []) (λ is. drop ! $ split ! $
+            land-last ! (from ! (stop !)) (init ! 31 refl (LL.lawful Answered-row.the-type Answered-row′.the-laws 𝓤 H A W .typed m _ is .0)) $ rewrite ! 31 (λ (u : Val). ‵ (fat fullShare Answered-row′.mir l23 0 u)) (ap only (LL.tells Answered-row.the-type Answered-row′.the-laws m _ is)) refl $
             exec ! C Λ En pieces.t-2 (atRet En (Post call)) $ forget ! 22 refl $ forget ! 23 refl $ forget ! 24 refl $ forget ! 25 refl $ forget ! 26 refl $ forget ! 42 refl $ forget ! 43 refl $ forget ! 44 refl $ forget ! 45 refl $ forget ! 46 refl $ forget ! 47 refl $ forget ! 48 refl $ forget ! 49 refl $
-            keep ! (2 ∷ 0 ∷ 4 ∷ 5 ∷ 6 ∷ 7 ∷ 8 ∷ 9 ∷ 10 ∷ 11 ∷ 12 ∷ 13 ∷ 14 ∷ 15 ∷ 16 ∷ 17 ∷ 18 ∷ 19 ∷ 20 ∷ 21 ∷ 22 ∷ 23 ∷ 24 ∷ 25 ∷ 26 ∷ 27 ∷ 28 ∷ 29 ∷ 30 ∷ 31 ∷ 32 ∷ 33 ∷ 34 ∷ 35 ∷ 36 ∷ 37 ∷ 38 ∷ 39 ∷ 40 ∷ 41 ∷ 42 ∷ 43 ∷ 44 ∷ 45 ∷ 46 ∷ 47 ∷ 48 ∷ 49 ∷ 50 ∷ 51 ∷ 52 ∷ 53 ∷ 54 ∷ 55 ∷ 56 ∷ 57 ∷ 58 ∷ 59 ∷ 60 ∷ 61 ∷ 62 ∷ 63 ∷ 64 ∷ 65 ∷ 66 ∷ 67 ∷ 68 ∷ 69 ∷ 70 ∷ 71 ∷ 72 ∷ 73 ∷ 74 ∷ 75 ∷ 76 ∷ 77 ∷ 78 ∷ 79 ∷ 80 ∷ 81 ∷ 82 ∷ 83 ∷ 84 ∷ 85 ∷ 86 ∷ 87 ∷ 88 ∷ 89 ∷ 90 ∷ 91 ∷ 92 ∷ 93 ∷ 94 ∷ 95 ∷ 96 ∷ 97 ∷ 98 ∷ 99 ∷ 100 ∷ 101 ∷ []) $ answered (ws .0) m zs (d .0 ∙ ap (λ (u : Done). u .next) e, d .1 ∙ ap (λ (u : Done). u .answer) e, z) (answer-is m _ is) l)))))
+            keep ! (2 ∷ 0 ∷ 4 ∷ 5 ∷ 6 ∷ 7 ∷ 8 ∷ 9 ∷ 10 ∷ 11 ∷ 12 ∷ 13 ∷ 14 ∷ 15 ∷ 16 ∷ 17 ∷ 18 ∷ 19 ∷ 20 ∷ 21 ∷ 22 ∷ 23 ∷ 24 ∷ 25 ∷ 26 ∷ 27 ∷ 28 ∷ 29 ∷ 30 ∷ 31 ∷ 32 ∷ 33 ∷ 34 ∷ 35 ∷ 36 ∷ 37 ∷ 38 ∷ 39 ∷ 40 ∷ 41 ∷ 42 ∷ 43 ∷ 44 ∷ 45 ∷ 46 ∷ 47 ∷ 48 ∷ 49 ∷ 50 ∷ 51 ∷ 52 ∷ 53 ∷ 54 ∷ 55 ∷ 56 ∷ 57 ∷ 58 ∷ 59 ∷ 60 ∷ 61 ∷ 62 ∷ 63 ∷ 64 ∷ 65 ∷ 66 ∷ 67 ∷ 68 ∷ 69 ∷ 70 ∷ 71 ∷ 72 ∷ 73 ∷ 74 ∷ 75 ∷ 76 ∷ 77 ∷ 78 ∷ 79 ∷ 80 ∷ 81 ∷ 82 ∷ 83 ∷ 84 ∷ 85 ∷ 86 ∷ 87 ∷ 88 ∷ 89 ∷ 90 ∷ 91 ∷ 92 ∷ 93 ∷ 94 ∷ 95 ∷ 96 ∷ 97 ∷ 98 ∷ 99 ∷ 100 ∷ 101 ∷ []) $ answered (ws .0) m zs (d .0 ∙ ap (λ (u : Done). u .next) e, d .1 ∙ ap answerIn e, z) (answer-is m _ is) l)))))
 
         -- what is made of the row
-        making-slot : {y2 y14 y34 y16 y35 y36 y37 y38 : Val} (r : Ruling) → Is Ruling-row.the-row r (LL.val Ruling-row.the-type Ruling-row′.the-laws r ∷ []) → ((k : Contents) → k ≡ rowAt (h .rows) (rowIndex (r .verdict)) → changed h (slotChange r k) ≡ doneOf (stepOf h (stepFor call f room))) → roomSent (h .rows) room (r .verdict) ≡ roomFor h call room → (i : ℕ) → i ≡ rowIndex (r .verdict) → length (h .rows) ≡ 16 → Is Row.the-row (rowAt (h .rows) i) (LL.val Row.the-type Row′.the-laws (rowAt (h .rows) i) ∷ []) → Sq W (‵ (fobs γ (T.the-row .coded .code h)) ∷ ‵ (fbor κ (Body (mem T.the-row) b o γ)) ∷ ‵ (flft κ q) ∷ ‵ Bytes ∷ ‵ (flft κ-f q-f) ∷ ‵ Room′ ∷ ‵ (flft κ-room q-room) ∷ ‵ (froom Answer-row′.mir l0 0) ∷ ‵ (fat fullShare (tyRef (named 0) mut rec-ty) l1 0 (vptr b o)) ∷ ‵ (fat fullShare Call-row′.mir l2 0 y2) ∷ ‵ (fat fullShare (sliceTy (tyRef (named 1) imm (tyInt w8))) l3 0 s-f) ∷ ‵ (fat fullShare (sliceTy (tyRef (named 2) mut (tyInt w8))) l4 0 s-room) ∷ ‵ (froom (tyInt w8) l5 0) ∷ ‵ (froom Control-row′.mir l6 0) ∷ ‵ (froom (tyInt w64) l7 0) ∷ ‵ (froom Row′.mir l8 0) ∷ ‵ (froom (tyInt w8) l9 0) ∷ ‵ (froom (tyInt w8) l10 0) ∷ ‵ (froom Sync-row′.mir l11 0) ∷ ‵ (froom out-ty l12 0) ∷ ‵ (froom out-ty l13 0) ∷ ‵ (fat fullShare (tyInt w8) l14 0 y14) ∷ ‵ (fat fullShare Ruling-row′.mir l15 0 (LL.val Ruling-row.the-type Ruling-row′.the-laws r)) ∷ ‵ (fat fullShare (tyInt w64) l16 0 y16) ∷ ‵ (fat fullShare Row′.mir l17 0 (LL.val Row.the-type Row′.the-laws (rowAt (h .rows) i))) ∷ ‵ (froom out-ty l18 0) ∷ ‵ (froom tyBool l19 0) ∷ ‵ (froom Fault-row′.mir l20 0) ∷ ‵ (froom out-ty l21 0) ∷ ‵ (froom out-ty l22 0) ∷ ‵ (froom Answer-row′.mir l23 0) ∷ ‵ (froom T′.mir l24 0) ∷ ‵ (froom (tyInt w64) l25 0) ∷ ‵ (froom tyPtr l26 0) ∷ ‵ (froom tyPtr l27 0) ∷ ‵ (froom Row′.mir l28 0) ∷ ‵ (froom (tyRef erased mut rec-ty) l29 0) ∷ ‵ (froom T′.mir l30 0) ∷ ‵ (froom (tyRef erased mut rec-ty) l31 0) ∷ ‵ (froom T′.mir l32 0) ∷ ‵ (froom (tyRef erased mut rec-ty) l33 0) ∷ ‵ (fat fullShare T′.mir l34 0 y34) ∷ ‵ (fat fullShare (tyInt w64) l35 0 y35) ∷ ‵ (fat fullShare tyPtr l36 0 y36) ∷ ‵ (fat fullShare tyPtr l37 0 y37) ∷ ‵ (fat fullShare Row′.mir l38 0 y38) ∷ ‵ (froom (tyRef erased mut (tyInt w8)) l39 0) ∷ ‵ (froom (sliceTy (tyRef erased mut (tyInt w8))) l40 0) ∷ ‵ (froom (tyRef erased mut rec-ty) l41 0) ∷ ‵ (froom (tyRef erased mut rec-ty) l42 0) ∷ ‵ (froom T′.mir l43 0) ∷ ‵ (froom (tyRef erased mut rec-ty) l44 0) ∷ ‵ (froom T′.mir l45 0) ∷ ‵ (froom (tyRef erased mut rec-ty) l46 0) ∷ Dies) (runs C Λ En code-making-slot (anyQ (Next call)))
+        making-slot : {y2 y14 y34 y16 y35 y36 y37 y38 : Val} (r : Ruling) → Is Ruling-row.the-row r (LL.val Ruling-row.the-type Ruling-row′.the-laws r ∷ []) → ((k : Contents) → k ≡ rowAt (h .rows) (rowIndex (r .verdict)) → changed h (slotChange r k) ≡ doneOf (stepOf h (stepFor call f room))) → roomSent (h .rows) room (r .verdict) ≡ roomFor h call room → (i : ℕ) → i ≡ rowIndex (r .verdict) → length (h .rows) ≡ 16 → Is Row.the-row (rowAt (h .rows) i) (LL.val Row.the-type Row′.the-laws (rowAt (h .rows) i) ∷ []) → Sq W (‵ (fobs γ (T.the-row .coded .code h)) ∷ ‵ (fbor κ (Body (mem T.the-row) b o γ)) ∷ ‵ (flft κ q) ∷ ‵ Bytes ∷ ‵ (flft κ-f q-f) ∷ ‵ Room′ ∷ ‵ (flft κ-room q-room) ∷ ‵ (froom Answered-row′.mir l0 0) ∷ ‵ (fat fullShare (tyRef (named 0) mut rec-ty) l1 0 (vptr b o)) ∷ ‵ (fat fullShare Call-row′.mir l2 0 y2) ∷ ‵ (fat fullShare (sliceTy (tyRef (named 1) imm (tyInt w8))) l3 0 s-f) ∷ ‵ (fat fullShare (sliceTy (tyRef (named 2) mut (tyInt w8))) l4 0 s-room) ∷ ‵ (froom (tyInt w8) l5 0) ∷ ‵ (froom Control-row′.mir l6 0) ∷ ‵ (froom (tyInt w64) l7 0) ∷ ‵ (froom Row′.mir l8 0) ∷ ‵ (froom (tyInt w8) l9 0) ∷ ‵ (froom (tyInt w8) l10 0) ∷ ‵ (froom Sync-row′.mir l11 0) ∷ ‵ (froom out-ty l12 0) ∷ ‵ (froom out-ty l13 0) ∷ ‵ (fat fullShare (tyInt w8) l14 0 y14) ∷ ‵ (fat fullShare Ruling-row′.mir l15 0 (LL.val Ruling-row.the-type Ruling-row′.the-laws r)) ∷ ‵ (fat fullShare (tyInt w64) l16 0 y16) ∷ ‵ (fat fullShare Row′.mir l17 0 (LL.val Row.the-type Row′.the-laws (rowAt (h .rows) i))) ∷ ‵ (froom out-ty l18 0) ∷ ‵ (froom tyBool l19 0) ∷ ‵ (froom Fault-row′.mir l20 0) ∷ ‵ (froom out-ty l21 0) ∷ ‵ (froom out-ty l22 0) ∷ ‵ (froom Answered-row′.mir l23 0) ∷ ‵ (froom T′.mir l24 0) ∷ ‵ (froom (tyInt w64) l25 0) ∷ ‵ (froom tyPtr l26 0) ∷ ‵ (froom tyPtr l27 0) ∷ ‵ (froom Row′.mir l28 0) ∷ ‵ (froom (tyRef erased mut rec-ty) l29 0) ∷ ‵ (froom T′.mir l30 0) ∷ ‵ (froom (tyRef erased mut rec-ty) l31 0) ∷ ‵ (froom T′.mir l32 0) ∷ ‵ (froom (tyRef erased mut rec-ty) l33 0) ∷ ‵ (fat fullShare T′.mir l34 0 y34) ∷ ‵ (fat fullShare (tyInt w64) l35 0 y35) ∷ ‵ (fat fullShare tyPtr l36 0 y36) ∷ ‵ (fat fullShare tyPtr l37 0 y37) ∷ ‵ (fat fullShare Row′.mir l38 0 y38) ∷ ‵ (froom (tyRef erased mut (tyInt w8)) l39 0) ∷ ‵ (froom (sliceTy (tyRef erased mut (tyInt w8))) l40 0) ∷ ‵ (froom (tyRef erased mut rec-ty) l41 0) ∷ ‵ (froom (tyRef erased mut rec-ty) l42 0) ∷ ‵ (froom T′.mir l43 0) ∷ ‵ (froom (tyRef erased mut rec-ty) l44 0) ∷ ‵ (froom T′.mir l45 0) ∷ ‵ (froom (tyRef erased mut rec-ty) l46 0) ∷ Dies) (runs C Λ En code-making-slot (anyQ (Next call)))
         making-slot r r-is e z i p sixteen k-is =
             assigns ! (addr ! (from ! (fld ! refl (hop ! (look-in ! 11 (sub ! 0 refl (whole !))) (stop !))))) (from ! (stop !)) (init ! 46 refl (tt, tt)) $
             assigns ! (agg ! (and-then ! (load ! (from ! (stop !)) (look ! 46 refl)) (and-then ! (load ! (from ! (fld ! refl (stop !))) (look-in ! 11 (sub ! 1 refl (whole !)))) (no-more !)))) (from ! (stop !)) (init ! 47 refl (tt, (tt, (record { fits = room-room .0 }, tt)))) $
@@ -692,7 +708,7 @@ module _ {M : Type 1} (𝓤 : URA M) (H : Heap 𝓤) (A : Atoms 𝓤) (W : Given
             keep ! (4 ∷ 5 ∷ 6 ∷ 7 ∷ 8 ∷ 0 ∷ 2 ∷ 9 ∷ 10 ∷ 11 ∷ 12 ∷ 13 ∷ 14 ∷ 15 ∷ 16 ∷ 17 ∷ 18 ∷ 19 ∷ 20 ∷ 21 ∷ 22 ∷ 23 ∷ 24 ∷ 25 ∷ 26 ∷ 27 ∷ 28 ∷ 29 ∷ 30 ∷ 31 ∷ 32 ∷ 33 ∷ 34 ∷ 35 ∷ 36 ∷ 37 ∷ 38 ∷ 39 ∷ 40 ∷ 41 ∷ 42 ∷ 43 ∷ 44 ∷ 45 ∷ 46 ∷ 47 ∷ 48 ∷ 49 ∷ 50 ∷ 51 ∷ 52 ∷ 53 ∷ 54 ∷ 55 ∷ 56 ∷ 57 ∷ 58 ∷ 59 ∷ 60 ∷ 61 ∷ 62 ∷ 63 ∷ 64 ∷ 65 ∷ 66 ∷ 67 ∷ 68 ∷ 69 ∷ 70 ∷ 71 ∷ 72 ∷ 73 ∷ 74 ∷ 75 ∷ 76 ∷ 77 ∷ 78 ∷ 79 ∷ 80 ∷ 81 ∷ 82 ∷ 83 ∷ 84 ∷ 85 ∷ 86 ∷ 87 ∷ 88 ∷ 89 ∷ 90 ∷ 91 ∷ 92 ∷ 93 ∷ 94 ∷ 95 ∷ 96 ∷ 97 ∷ 98 ∷ 99 ∷ 100 ∷ 101 ∷ 102 ∷ []) $ carried-slot x (change-is x _ is) (ap (changed h) d ∙ e _ (ap (rowAt (h .rows)) p)) (ws .1 .1 .0) (z₁ h (ap (rowAt (h .rows)) p) ∙ z) l)))))))
 
         -- the row is read
-        reading-slot : {y2 y14 y34 : Val} (r : Ruling) → Is Ruling-row.the-row r (LL.val Ruling-row.the-type Ruling-row′.the-laws r ∷ []) → ((k : Contents) → k ≡ rowAt (h .rows) (rowIndex (r .verdict)) → changed h (slotChange r k) ≡ doneOf (stepOf h (stepFor call f room))) → roomSent (h .rows) room (r .verdict) ≡ roomFor h call room → (i : ℕ) → i ≡ rowIndex (r .verdict) → Sq W (‵ (fobs γ (T.the-row .coded .code h)) ∷ ‵ (fbor κ (Body (mem T.the-row) b o γ)) ∷ ‵ (flft κ q) ∷ ‵ Bytes ∷ ‵ (flft κ-f q-f) ∷ ‵ Room′ ∷ ‵ (flft κ-room q-room) ∷ ‵ (froom Answer-row′.mir l0 0) ∷ ‵ (fat fullShare (tyRef (named 0) mut rec-ty) l1 0 (vptr b o)) ∷ ‵ (fat fullShare Call-row′.mir l2 0 y2) ∷ ‵ (fat fullShare (sliceTy (tyRef (named 1) imm (tyInt w8))) l3 0 s-f) ∷ ‵ (fat fullShare (sliceTy (tyRef (named 2) mut (tyInt w8))) l4 0 s-room) ∷ ‵ (froom (tyInt w8) l5 0) ∷ ‵ (froom Control-row′.mir l6 0) ∷ ‵ (froom (tyInt w64) l7 0) ∷ ‵ (froom Row′.mir l8 0) ∷ ‵ (froom (tyInt w8) l9 0) ∷ ‵ (froom (tyInt w8) l10 0) ∷ ‵ (froom Sync-row′.mir l11 0) ∷ ‵ (froom out-ty l12 0) ∷ ‵ (froom out-ty l13 0) ∷ ‵ (fat fullShare (tyInt w8) l14 0 y14) ∷ ‵ (fat fullShare Ruling-row′.mir l15 0 (LL.val Ruling-row.the-type Ruling-row′.the-laws r)) ∷ ‵ (fat fullShare (tyInt w64) l16 0 (vint w64 i)) ∷ ‵ (froom Row′.mir l17 0) ∷ ‵ (froom out-ty l18 0) ∷ ‵ (froom tyBool l19 0) ∷ ‵ (froom Fault-row′.mir l20 0) ∷ ‵ (froom out-ty l21 0) ∷ ‵ (froom out-ty l22 0) ∷ ‵ (froom Answer-row′.mir l23 0) ∷ ‵ (froom T′.mir l24 0) ∷ ‵ (froom (tyInt w64) l25 0) ∷ ‵ (froom tyPtr l26 0) ∷ ‵ (froom tyPtr l27 0) ∷ ‵ (froom Row′.mir l28 0) ∷ ‵ (froom (tyRef erased mut rec-ty) l29 0) ∷ ‵ (froom T′.mir l30 0) ∷ ‵ (froom (tyRef erased mut rec-ty) l31 0) ∷ ‵ (froom T′.mir l32 0) ∷ ‵ (froom (tyRef erased mut rec-ty) l33 0) ∷ ‵ (fat fullShare T′.mir l34 0 y34) ∷ ‵ (froom (tyInt w64) l35 0) ∷ ‵ (froom tyPtr l36 0) ∷ ‵ (froom tyPtr l37 0) ∷ ‵ (froom Row′.mir l38 0) ∷ ‵ (froom (tyRef erased mut (tyInt w8)) l39 0) ∷ ‵ (froom (sliceTy (tyRef erased mut (tyInt w8))) l40 0) ∷ ‵ (froom (tyRef erased mut rec-ty) l41 0) ∷ ‵ (froom (tyRef erased mut rec-ty) l42 0) ∷ ‵ (froom T′.mir l43 0) ∷ ‵ (froom (tyRef erased mut rec-ty) l44 0) ∷ ‵ (froom T′.mir l45 0) ∷ ‵ (froom (tyRef erased mut rec-ty) l46 0) ∷ Dies) (runs C Λ En code-reading-slot (anyQ (Next call)))
+        reading-slot : {y2 y14 y34 : Val} (r : Ruling) → Is Ruling-row.the-row r (LL.val Ruling-row.the-type Ruling-row′.the-laws r ∷ []) → ((k : Contents) → k ≡ rowAt (h .rows) (rowIndex (r .verdict)) → changed h (slotChange r k) ≡ doneOf (stepOf h (stepFor call f room))) → roomSent (h .rows) room (r .verdict) ≡ roomFor h call room → (i : ℕ) → i ≡ rowIndex (r .verdict) → Sq W (‵ (fobs γ (T.the-row .coded .code h)) ∷ ‵ (fbor κ (Body (mem T.the-row) b o γ)) ∷ ‵ (flft κ q) ∷ ‵ Bytes ∷ ‵ (flft κ-f q-f) ∷ ‵ Room′ ∷ ‵ (flft κ-room q-room) ∷ ‵ (froom Answered-row′.mir l0 0) ∷ ‵ (fat fullShare (tyRef (named 0) mut rec-ty) l1 0 (vptr b o)) ∷ ‵ (fat fullShare Call-row′.mir l2 0 y2) ∷ ‵ (fat fullShare (sliceTy (tyRef (named 1) imm (tyInt w8))) l3 0 s-f) ∷ ‵ (fat fullShare (sliceTy (tyRef (named 2) mut (tyInt w8))) l4 0 s-room) ∷ ‵ (froom (tyInt w8) l5 0) ∷ ‵ (froom Control-row′.mir l6 0) ∷ ‵ (froom (tyInt w64) l7 0) ∷ ‵ (froom Row′.mir l8 0) ∷ ‵ (froom (tyInt w8) l9 0) ∷ ‵ (froom (tyInt w8) l10 0) ∷ ‵ (froom Sync-row′.mir l11 0) ∷ ‵ (froom out-ty l12 0) ∷ ‵ (froom out-ty l13 0) ∷ ‵ (fat fullShare (tyInt w8) l14 0 y14) ∷ ‵ (fat fullShare Ruling-row′.mir l15 0 (LL.val Ruling-row.the-type Ruling-row′.the-laws r)) ∷ ‵ (fat fullShare (tyInt w64) l16 0 (vint w64 i)) ∷ ‵ (froom Row′.mir l17 0) ∷ ‵ (froom out-ty l18 0) ∷ ‵ (froom tyBool l19 0) ∷ ‵ (froom Fault-row′.mir l20 0) ∷ ‵ (froom out-ty l21 0) ∷ ‵ (froom out-ty l22 0) ∷ ‵ (froom Answered-row′.mir l23 0) ∷ ‵ (froom T′.mir l24 0) ∷ ‵ (froom (tyInt w64) l25 0) ∷ ‵ (froom tyPtr l26 0) ∷ ‵ (froom tyPtr l27 0) ∷ ‵ (froom Row′.mir l28 0) ∷ ‵ (froom (tyRef erased mut rec-ty) l29 0) ∷ ‵ (froom T′.mir l30 0) ∷ ‵ (froom (tyRef erased mut rec-ty) l31 0) ∷ ‵ (froom T′.mir l32 0) ∷ ‵ (froom (tyRef erased mut rec-ty) l33 0) ∷ ‵ (fat fullShare T′.mir l34 0 y34) ∷ ‵ (froom (tyInt w64) l35 0) ∷ ‵ (froom tyPtr l36 0) ∷ ‵ (froom tyPtr l37 0) ∷ ‵ (froom Row′.mir l38 0) ∷ ‵ (froom (tyRef erased mut (tyInt w8)) l39 0) ∷ ‵ (froom (sliceTy (tyRef erased mut (tyInt w8))) l40 0) ∷ ‵ (froom (tyRef erased mut rec-ty) l41 0) ∷ ‵ (froom (tyRef erased mut rec-ty) l42 0) ∷ ‵ (froom T′.mir l43 0) ∷ ‵ (froom (tyRef erased mut rec-ty) l44 0) ∷ ‵ (froom T′.mir l45 0) ∷ ‵ (froom (tyRef erased mut rec-ty) l46 0) ∷ Dies) (runs C Λ En code-reading-slot (anyQ (Next call)))
         reading-slot r r-is e z i p =
             opens ! tt T.the-row {h = h} b o (λ vs. spelt ! T.the-row (Is T.the-row) (shows 𝓤 H A T.the-row) (LL.vals T.the-type T′.the-laws) (LL.tells T.the-type T′.the-laws) fullShare h vs b o $
             move ! (1 ∷ []) $ peeks ! T.the-row (Is T.the-row) (shows 𝓤 H A T.the-row) h (mach h ∷ []) (λ was.
@@ -708,7 +724,7 @@ module _ {M : Type 1} (𝓤 : URA M) (H : Heap 𝓤) (A : Atoms 𝓤) (W : Given
             making-slot r r-is e z i p (sixteen-rows h was) (row-is h was i (row-below (r .verdict) i p))))
 
         -- the index of its row
-        finding-slot : {y2 y14 y34 : Val} (r : Ruling) → Is Ruling-row.the-row r (LL.val Ruling-row.the-type Ruling-row′.the-laws r ∷ []) → ((k : Contents) → k ≡ rowAt (h .rows) (rowIndex (r .verdict)) → changed h (slotChange r k) ≡ doneOf (stepOf h (stepFor call f room))) → roomSent (h .rows) room (r .verdict) ≡ roomFor h call room → Sq W (‵ (fobs γ (T.the-row .coded .code h)) ∷ ‵ (fbor κ (Body (mem T.the-row) b o γ)) ∷ ‵ (flft κ q) ∷ ‵ Bytes ∷ ‵ (flft κ-f q-f) ∷ ‵ Room′ ∷ ‵ (flft κ-room q-room) ∷ ‵ (froom Answer-row′.mir l0 0) ∷ ‵ (fat fullShare (tyRef (named 0) mut rec-ty) l1 0 (vptr b o)) ∷ ‵ (fat fullShare Call-row′.mir l2 0 y2) ∷ ‵ (fat fullShare (sliceTy (tyRef (named 1) imm (tyInt w8))) l3 0 s-f) ∷ ‵ (fat fullShare (sliceTy (tyRef (named 2) mut (tyInt w8))) l4 0 s-room) ∷ ‵ (froom (tyInt w8) l5 0) ∷ ‵ (froom Control-row′.mir l6 0) ∷ ‵ (froom (tyInt w64) l7 0) ∷ ‵ (froom Row′.mir l8 0) ∷ ‵ (froom (tyInt w8) l9 0) ∷ ‵ (froom (tyInt w8) l10 0) ∷ ‵ (froom Sync-row′.mir l11 0) ∷ ‵ (froom out-ty l12 0) ∷ ‵ (froom out-ty l13 0) ∷ ‵ (fat fullShare (tyInt w8) l14 0 y14) ∷ ‵ (fat fullShare Ruling-row′.mir l15 0 (LL.val Ruling-row.the-type Ruling-row′.the-laws r)) ∷ ‵ (froom (tyInt w64) l16 0) ∷ ‵ (froom Row′.mir l17 0) ∷ ‵ (froom out-ty l18 0) ∷ ‵ (froom tyBool l19 0) ∷ ‵ (froom Fault-row′.mir l20 0) ∷ ‵ (froom out-ty l21 0) ∷ ‵ (froom out-ty l22 0) ∷ ‵ (froom Answer-row′.mir l23 0) ∷ ‵ (froom T′.mir l24 0) ∷ ‵ (froom (tyInt w64) l25 0) ∷ ‵ (froom tyPtr l26 0) ∷ ‵ (froom tyPtr l27 0) ∷ ‵ (froom Row′.mir l28 0) ∷ ‵ (froom (tyRef erased mut rec-ty) l29 0) ∷ ‵ (froom T′.mir l30 0) ∷ ‵ (froom (tyRef erased mut rec-ty) l31 0) ∷ ‵ (froom T′.mir l32 0) ∷ ‵ (froom (tyRef erased mut rec-ty) l33 0) ∷ ‵ (fat fullShare T′.mir l34 0 y34) ∷ ‵ (froom (tyInt w64) l35 0) ∷ ‵ (froom tyPtr l36 0) ∷ ‵ (froom tyPtr l37 0) ∷ ‵ (froom Row′.mir l38 0) ∷ ‵ (froom (tyRef erased mut (tyInt w8)) l39 0) ∷ ‵ (froom (sliceTy (tyRef erased mut (tyInt w8))) l40 0) ∷ ‵ (froom (tyRef erased mut rec-ty) l41 0) ∷ ‵ (froom (tyRef erased mut rec-ty) l42 0) ∷ ‵ (froom T′.mir l43 0) ∷ ‵ (froom (tyRef erased mut rec-ty) l44 0) ∷ ‵ (froom T′.mir l45 0) ∷ ‵ (froom (tyRef erased mut rec-ty) l46 0) ∷ Dies) (runs C Λ En code-finding-slot (anyQ (Next call)))
+        finding-slot : {y2 y14 y34 : Val} (r : Ruling) → Is Ruling-row.the-row r (LL.val Ruling-row.the-type Ruling-row′.the-laws r ∷ []) → ((k : Contents) → k ≡ rowAt (h .rows) (rowIndex (r .verdict)) → changed h (slotChange r k) ≡ doneOf (stepOf h (stepFor call f room))) → roomSent (h .rows) room (r .verdict) ≡ roomFor h call room → Sq W (‵ (fobs γ (T.the-row .coded .code h)) ∷ ‵ (fbor κ (Body (mem T.the-row) b o γ)) ∷ ‵ (flft κ q) ∷ ‵ Bytes ∷ ‵ (flft κ-f q-f) ∷ ‵ Room′ ∷ ‵ (flft κ-room q-room) ∷ ‵ (froom Answered-row′.mir l0 0) ∷ ‵ (fat fullShare (tyRef (named 0) mut rec-ty) l1 0 (vptr b o)) ∷ ‵ (fat fullShare Call-row′.mir l2 0 y2) ∷ ‵ (fat fullShare (sliceTy (tyRef (named 1) imm (tyInt w8))) l3 0 s-f) ∷ ‵ (fat fullShare (sliceTy (tyRef (named 2) mut (tyInt w8))) l4 0 s-room) ∷ ‵ (froom (tyInt w8) l5 0) ∷ ‵ (froom Control-row′.mir l6 0) ∷ ‵ (froom (tyInt w64) l7 0) ∷ ‵ (froom Row′.mir l8 0) ∷ ‵ (froom (tyInt w8) l9 0) ∷ ‵ (froom (tyInt w8) l10 0) ∷ ‵ (froom Sync-row′.mir l11 0) ∷ ‵ (froom out-ty l12 0) ∷ ‵ (froom out-ty l13 0) ∷ ‵ (fat fullShare (tyInt w8) l14 0 y14) ∷ ‵ (fat fullShare Ruling-row′.mir l15 0 (LL.val Ruling-row.the-type Ruling-row′.the-laws r)) ∷ ‵ (froom (tyInt w64) l16 0) ∷ ‵ (froom Row′.mir l17 0) ∷ ‵ (froom out-ty l18 0) ∷ ‵ (froom tyBool l19 0) ∷ ‵ (froom Fault-row′.mir l20 0) ∷ ‵ (froom out-ty l21 0) ∷ ‵ (froom out-ty l22 0) ∷ ‵ (froom Answered-row′.mir l23 0) ∷ ‵ (froom T′.mir l24 0) ∷ ‵ (froom (tyInt w64) l25 0) ∷ ‵ (froom tyPtr l26 0) ∷ ‵ (froom tyPtr l27 0) ∷ ‵ (froom Row′.mir l28 0) ∷ ‵ (froom (tyRef erased mut rec-ty) l29 0) ∷ ‵ (froom T′.mir l30 0) ∷ ‵ (froom (tyRef erased mut rec-ty) l31 0) ∷ ‵ (froom T′.mir l32 0) ∷ ‵ (froom (tyRef erased mut rec-ty) l33 0) ∷ ‵ (fat fullShare T′.mir l34 0 y34) ∷ ‵ (froom (tyInt w64) l35 0) ∷ ‵ (froom tyPtr l36 0) ∷ ‵ (froom tyPtr l37 0) ∷ ‵ (froom Row′.mir l38 0) ∷ ‵ (froom (tyRef erased mut (tyInt w8)) l39 0) ∷ ‵ (froom (sliceTy (tyRef erased mut (tyInt w8))) l40 0) ∷ ‵ (froom (tyRef erased mut rec-ty) l41 0) ∷ ‵ (froom (tyRef erased mut rec-ty) l42 0) ∷ ‵ (froom T′.mir l43 0) ∷ ‵ (froom (tyRef erased mut rec-ty) l44 0) ∷ ‵ (froom T′.mir l45 0) ∷ ‵ (froom (tyRef erased mut rec-ty) l46 0) ∷ Dies) (runs C Λ En code-finding-slot (anyQ (Next call)))
         finding-slot r r-is e z =
             use0 W (raw ((Rows 𝓤 H A at-mem run) .pre (to-rows r))) (asked-rows r r-is) $
             calls-at ! fm (Rows 𝓤 H A at-mem run) known-rows (to-rows r) (and-then ! (load ! (from ! (stop !)) (look ! 23 refl)) (no-more !)) (λ v.
@@ -720,7 +736,7 @@ module _ {M : Type 1} (𝓤 : URA M) (H : Heap 𝓤) (A : Atoms 𝓤) (W : Given
             reading-slot r r-is e z i p)))))
 
         -- Slot
-        on-slot : {y2 : Val} (n : ℕ) → n < 2 ^ 8 → slot n room ≡ stepFor call f room → stepOf h (slot n room) .room ≡ roomFor h call room → Sq W (‵ Rec ∷ ‵ (flft κ q) ∷ ‵ Bytes ∷ ‵ (flft κ-f q-f) ∷ ‵ Room′ ∷ ‵ (flft κ-room q-room) ∷ ‵ (froom Answer-row′.mir l0 0) ∷ ‵ (fat fullShare (tyRef (named 0) mut rec-ty) l1 0 (vptr b o)) ∷ ‵ (fat fullShare Call-row′.mir l2 0 y2) ∷ ‵ (fat fullShare (sliceTy (tyRef (named 1) imm (tyInt w8))) l3 0 s-f) ∷ ‵ (fat fullShare (sliceTy (tyRef (named 2) mut (tyInt w8))) l4 0 s-room) ∷ ‵ (froom (tyInt w8) l5 0) ∷ ‵ (froom Control-row′.mir l6 0) ∷ ‵ (froom (tyInt w64) l7 0) ∷ ‵ (froom Row′.mir l8 0) ∷ ‵ (froom (tyInt w8) l9 0) ∷ ‵ (froom (tyInt w8) l10 0) ∷ ‵ (froom Sync-row′.mir l11 0) ∷ ‵ (froom out-ty l12 0) ∷ ‵ (froom out-ty l13 0) ∷ ‵ (fat fullShare (tyInt w8) l14 0 (vint w8 n)) ∷ ‵ (froom Ruling-row′.mir l15 0) ∷ ‵ (froom (tyInt w64) l16 0) ∷ ‵ (froom Row′.mir l17 0) ∷ ‵ (froom out-ty l18 0) ∷ ‵ (froom tyBool l19 0) ∷ ‵ (froom Fault-row′.mir l20 0) ∷ ‵ (froom out-ty l21 0) ∷ ‵ (froom out-ty l22 0) ∷ ‵ (froom Answer-row′.mir l23 0) ∷ ‵ (froom T′.mir l24 0) ∷ ‵ (froom (tyInt w64) l25 0) ∷ ‵ (froom tyPtr l26 0) ∷ ‵ (froom tyPtr l27 0) ∷ ‵ (froom Row′.mir l28 0) ∷ ‵ (froom (tyRef erased mut rec-ty) l29 0) ∷ ‵ (froom T′.mir l30 0) ∷ ‵ (froom (tyRef erased mut rec-ty) l31 0) ∷ ‵ (froom T′.mir l32 0) ∷ ‵ (froom (tyRef erased mut rec-ty) l33 0) ∷ ‵ (froom T′.mir l34 0) ∷ ‵ (froom (tyInt w64) l35 0) ∷ ‵ (froom tyPtr l36 0) ∷ ‵ (froom tyPtr l37 0) ∷ ‵ (froom Row′.mir l38 0) ∷ ‵ (froom (tyRef erased mut (tyInt w8)) l39 0) ∷ ‵ (froom (sliceTy (tyRef erased mut (tyInt w8))) l40 0) ∷ ‵ (froom (tyRef erased mut rec-ty) l41 0) ∷ ‵ (froom (tyRef erased mut rec-ty) l42 0) ∷ ‵ (froom T′.mir l43 0) ∷ ‵ (froom (tyRef erased mut rec-ty) l44 0) ∷ ‵ (froom T′.mir l45 0) ∷ ‵ (froom (tyRef erased mut rec-ty) l46 0) ∷ Dies) (runs C Λ En code-slot (anyQ (Next call)))
+        on-slot : {y2 : Val} (n : ℕ) → n < 2 ^ 8 → slot n room ≡ stepFor call f room → stepOf h (slot n room) .room ≡ roomFor h call room → Sq W (‵ Rec ∷ ‵ (flft κ q) ∷ ‵ Bytes ∷ ‵ (flft κ-f q-f) ∷ ‵ Room′ ∷ ‵ (flft κ-room q-room) ∷ ‵ (froom Answered-row′.mir l0 0) ∷ ‵ (fat fullShare (tyRef (named 0) mut rec-ty) l1 0 (vptr b o)) ∷ ‵ (fat fullShare Call-row′.mir l2 0 y2) ∷ ‵ (fat fullShare (sliceTy (tyRef (named 1) imm (tyInt w8))) l3 0 s-f) ∷ ‵ (fat fullShare (sliceTy (tyRef (named 2) mut (tyInt w8))) l4 0 s-room) ∷ ‵ (froom (tyInt w8) l5 0) ∷ ‵ (froom Control-row′.mir l6 0) ∷ ‵ (froom (tyInt w64) l7 0) ∷ ‵ (froom Row′.mir l8 0) ∷ ‵ (froom (tyInt w8) l9 0) ∷ ‵ (froom (tyInt w8) l10 0) ∷ ‵ (froom Sync-row′.mir l11 0) ∷ ‵ (froom out-ty l12 0) ∷ ‵ (froom out-ty l13 0) ∷ ‵ (fat fullShare (tyInt w8) l14 0 (vint w8 n)) ∷ ‵ (froom Ruling-row′.mir l15 0) ∷ ‵ (froom (tyInt w64) l16 0) ∷ ‵ (froom Row′.mir l17 0) ∷ ‵ (froom out-ty l18 0) ∷ ‵ (froom tyBool l19 0) ∷ ‵ (froom Fault-row′.mir l20 0) ∷ ‵ (froom out-ty l21 0) ∷ ‵ (froom out-ty l22 0) ∷ ‵ (froom Answered-row′.mir l23 0) ∷ ‵ (froom T′.mir l24 0) ∷ ‵ (froom (tyInt w64) l25 0) ∷ ‵ (froom tyPtr l26 0) ∷ ‵ (froom tyPtr l27 0) ∷ ‵ (froom Row′.mir l28 0) ∷ ‵ (froom (tyRef erased mut rec-ty) l29 0) ∷ ‵ (froom T′.mir l30 0) ∷ ‵ (froom (tyRef erased mut rec-ty) l31 0) ∷ ‵ (froom T′.mir l32 0) ∷ ‵ (froom (tyRef erased mut rec-ty) l33 0) ∷ ‵ (froom T′.mir l34 0) ∷ ‵ (froom (tyInt w64) l35 0) ∷ ‵ (froom tyPtr l36 0) ∷ ‵ (froom tyPtr l37 0) ∷ ‵ (froom Row′.mir l38 0) ∷ ‵ (froom (tyRef erased mut (tyInt w8)) l39 0) ∷ ‵ (froom (sliceTy (tyRef erased mut (tyInt w8))) l40 0) ∷ ‵ (froom (tyRef erased mut rec-ty) l41 0) ∷ ‵ (froom (tyRef erased mut rec-ty) l42 0) ∷ ‵ (froom T′.mir l43 0) ∷ ‵ (froom (tyRef erased mut rec-ty) l44 0) ∷ ‵ (froom T′.mir l45 0) ∷ ‵ (froom (tyRef erased mut rec-ty) l46 0) ∷ Dies) (runs C Λ En code-slot (anyQ (Next call)))
         on-slot n n-fits s z =
             fsplit3 ! $ drop ! $
             opens ! tt T.the-row {h = h} b o (λ vs. spelt ! T.the-row (Is T.the-row) (shows 𝓤 H A T.the-row) (LL.vals T.the-type T′.the-laws) (LL.tells T.the-type T′.the-laws) fullShare h vs b o $
@@ -738,7 +754,7 @@ module _ {M : Type 1} (𝓤 : URA M) (H : Heap 𝓤) (A : Atoms 𝓤) (W : Given
             forget ! 42 refl $ finding-slot r (ruling-is r _ is) (λ k same. slot-changes h (sixteen-rows h was) n room r e k same ∙ ap (λ (s : Step). doneOf (stepOf h s)) s) (ap (λ (r : Ruling). roomSent (h .rows) room (r .verdict)) e ∙ slot-sends h (sixteen-rows h was) n room ∙ z))))))))
 
         -- Frame
-        on-frame : {y2 : Val} (good : Bool) → frameStep good f ≡ stepFor call f room → room ≡ roomFor h call room → Sq W (‵ Rec ∷ ‵ (flft κ q) ∷ ‵ Bytes ∷ ‵ (flft κ-f q-f) ∷ ‵ Room′ ∷ ‵ (flft κ-room q-room) ∷ ‵ (froom Answer-row′.mir l0 0) ∷ ‵ (fat fullShare (tyRef (named 0) mut rec-ty) l1 0 (vptr b o)) ∷ ‵ (fat fullShare Call-row′.mir l2 0 y2) ∷ ‵ (fat fullShare (sliceTy (tyRef (named 1) imm (tyInt w8))) l3 0 s-f) ∷ ‵ (fat fullShare (sliceTy (tyRef (named 2) mut (tyInt w8))) l4 0 s-room) ∷ ‵ (froom (tyInt w8) l5 0) ∷ ‵ (froom Control-row′.mir l6 0) ∷ ‵ (froom (tyInt w64) l7 0) ∷ ‵ (froom Row′.mir l8 0) ∷ ‵ (froom (tyInt w8) l9 0) ∷ ‵ (froom (tyInt w8) l10 0) ∷ ‵ (froom Sync-row′.mir l11 0) ∷ ‵ (froom out-ty l12 0) ∷ ‵ (froom out-ty l13 0) ∷ ‵ (froom (tyInt w8) l14 0) ∷ ‵ (froom Ruling-row′.mir l15 0) ∷ ‵ (froom (tyInt w64) l16 0) ∷ ‵ (froom Row′.mir l17 0) ∷ ‵ (froom out-ty l18 0) ∷ ‵ (fat fullShare tyBool l19 0 (vbool good)) ∷ ‵ (froom Fault-row′.mir l20 0) ∷ ‵ (froom out-ty l21 0) ∷ ‵ (froom out-ty l22 0) ∷ ‵ (froom Answer-row′.mir l23 0) ∷ ‵ (froom T′.mir l24 0) ∷ ‵ (froom (tyInt w64) l25 0) ∷ ‵ (froom tyPtr l26 0) ∷ ‵ (froom tyPtr l27 0) ∷ ‵ (froom Row′.mir l28 0) ∷ ‵ (froom (tyRef erased mut rec-ty) l29 0) ∷ ‵ (froom T′.mir l30 0) ∷ ‵ (froom (tyRef erased mut rec-ty) l31 0) ∷ ‵ (froom T′.mir l32 0) ∷ ‵ (froom (tyRef erased mut rec-ty) l33 0) ∷ ‵ (froom T′.mir l34 0) ∷ ‵ (froom (tyInt w64) l35 0) ∷ ‵ (froom tyPtr l36 0) ∷ ‵ (froom tyPtr l37 0) ∷ ‵ (froom Row′.mir l38 0) ∷ ‵ (froom (tyRef erased mut (tyInt w8)) l39 0) ∷ ‵ (froom (sliceTy (tyRef erased mut (tyInt w8))) l40 0) ∷ ‵ (froom (tyRef erased mut rec-ty) l41 0) ∷ ‵ (froom (tyRef erased mut rec-ty) l42 0) ∷ ‵ (froom T′.mir l43 0) ∷ ‵ (froom (tyRef erased mut rec-ty) l44 0) ∷ ‵ (froom T′.mir l45 0) ∷ ‵ (froom (tyRef erased mut rec-ty) l46 0) ∷ Dies) (runs C Λ En code-frame (anyQ (Next call)))
+        on-frame : {y2 : Val} (good : Bool) → frameStep good f ≡ stepFor call f room → room ≡ roomFor h call room → Sq W (‵ Rec ∷ ‵ (flft κ q) ∷ ‵ Bytes ∷ ‵ (flft κ-f q-f) ∷ ‵ Room′ ∷ ‵ (flft κ-room q-room) ∷ ‵ (froom Answered-row′.mir l0 0) ∷ ‵ (fat fullShare (tyRef (named 0) mut rec-ty) l1 0 (vptr b o)) ∷ ‵ (fat fullShare Call-row′.mir l2 0 y2) ∷ ‵ (fat fullShare (sliceTy (tyRef (named 1) imm (tyInt w8))) l3 0 s-f) ∷ ‵ (fat fullShare (sliceTy (tyRef (named 2) mut (tyInt w8))) l4 0 s-room) ∷ ‵ (froom (tyInt w8) l5 0) ∷ ‵ (froom Control-row′.mir l6 0) ∷ ‵ (froom (tyInt w64) l7 0) ∷ ‵ (froom Row′.mir l8 0) ∷ ‵ (froom (tyInt w8) l9 0) ∷ ‵ (froom (tyInt w8) l10 0) ∷ ‵ (froom Sync-row′.mir l11 0) ∷ ‵ (froom out-ty l12 0) ∷ ‵ (froom out-ty l13 0) ∷ ‵ (froom (tyInt w8) l14 0) ∷ ‵ (froom Ruling-row′.mir l15 0) ∷ ‵ (froom (tyInt w64) l16 0) ∷ ‵ (froom Row′.mir l17 0) ∷ ‵ (froom out-ty l18 0) ∷ ‵ (fat fullShare tyBool l19 0 (vbool good)) ∷ ‵ (froom Fault-row′.mir l20 0) ∷ ‵ (froom out-ty l21 0) ∷ ‵ (froom out-ty l22 0) ∷ ‵ (froom Answered-row′.mir l23 0) ∷ ‵ (froom T′.mir l24 0) ∷ ‵ (froom (tyInt w64) l25 0) ∷ ‵ (froom tyPtr l26 0) ∷ ‵ (froom tyPtr l27 0) ∷ ‵ (froom Row′.mir l28 0) ∷ ‵ (froom (tyRef erased mut rec-ty) l29 0) ∷ ‵ (froom T′.mir l30 0) ∷ ‵ (froom (tyRef erased mut rec-ty) l31 0) ∷ ‵ (froom T′.mir l32 0) ∷ ‵ (froom (tyRef erased mut rec-ty) l33 0) ∷ ‵ (froom T′.mir l34 0) ∷ ‵ (froom (tyInt w64) l35 0) ∷ ‵ (froom tyPtr l36 0) ∷ ‵ (froom tyPtr l37 0) ∷ ‵ (froom Row′.mir l38 0) ∷ ‵ (froom (tyRef erased mut (tyInt w8)) l39 0) ∷ ‵ (froom (sliceTy (tyRef erased mut (tyInt w8))) l40 0) ∷ ‵ (froom (tyRef erased mut rec-ty) l41 0) ∷ ‵ (froom (tyRef erased mut rec-ty) l42 0) ∷ ‵ (froom T′.mir l43 0) ∷ ‵ (froom (tyRef erased mut rec-ty) l44 0) ∷ ‵ (froom T′.mir l45 0) ∷ ‵ (froom (tyRef erased mut rec-ty) l46 0) ∷ Dies) (runs C Λ En code-frame (anyQ (Next call)))
         on-frame good s z =
             fsplit3 ! $ drop ! $ move ! (5 ∷ []) $ fsplit ! $ move ! (1 ∷ []) $ fsplit ! $
             use1 W (‵ (fres γ-room (codedHoleys u8 .code (heres u8 room)))) (W .names .obs-res γ-room (codedHoleys u8 .code (heres u8 room))) $ use1 W (‵ (finally u8 γ-room room)) (res-finally 𝓤 H A W (named 2) κ-room u8 γ-room room) $
@@ -746,30 +762,30 @@ module _ {M : Type 1} (𝓤 : URA M) (H : Heap 𝓤) (A : Atoms 𝓤) (W : Given
             assigns ! (addr ! (from ! (hop ! (look ! 11 refl) (stop !)))) (from ! (stop !)) (init ! 52 refl (tt, tt)) $
             move ! (5 ∷ 6 ∷ 7 ∷ 8 ∷ 1 ∷ []) $ group ! 5 $ use1 W (raw ((Frames 𝓤 H A at-mem run) .pre (to-frame good))) (asked-frame good) $
             calls-at-last ! fm (Frames 𝓤 H A at-mem run) known-frames (to-frame good) (and-then ! (load ! (from ! (stop !)) (look ! 48 refl)) (and-then ! (load ! (from ! (stop !)) (look ! 25 refl)) (and-then ! (load ! (from ! (stop !)) (look ! 9 refl)) (no-more !)))) (λ v.
-            use1 W (later (some (λ (m : Answer). ((‵ (flft κ q) ⊛ ‵ (flft κ-f q-f) ⊛ ‵ ftrue) ⊛ ‵ (Answer-row.the-row .own m (v ∷ []))) ⊛ raw (ensured 𝓤 H A frames.ended (frames.clauses 𝓤 H A at-mem run) (κ, (κ-f, tt)) (args-frame good) tt m)))) (id⊢ 𝓤 _) $ await ! tt $ pick ! (λ m.
+            use1 W (later (some (λ (m : Answered). ((‵ (flft κ q) ⊛ ‵ (flft κ-f q-f) ⊛ ‵ ftrue) ⊛ ‵ (Answered-row.the-row .own m (v ∷ []))) ⊛ raw (ensured 𝓤 H A frames.ended (frames.clauses 𝓤 H A at-mem run) (κ, (κ-f, tt)) (args-frame good) tt m)))) (id⊢ 𝓤 _) $ await ! tt $ pick ! (λ m.
             split ! $ move ! (1 ∷ []) $ use1 W (some (λ (ws : Lasts frames.ended (κ, (κ-f, tt)) (args-frame good)). ‵ (lasts frames.ended (κ, (κ-f, tt)) (args-frame good) ws) ⊛ raw (fact 𝓤 ((ws .0 ≡ next (frameStep good f)) × (m ≡ answer (frameStep good f)))))) (id⊢ 𝓤 _) $ pick ! (λ ws.
             split ! $ move ! (1 ∷ []) $ heard ! ((ws .0 ≡ next (frameStep good f)) × (m ≡ answer (frameStep good f))) (λ d. fsplit ! $
-            move ! (2 ∷ []) $ split ! $ move ! (1 ∷ []) $ peeks ! Answer-row.the-row (Is Answer-row.the-row) (shows 𝓤 H A Answer-row.the-row) m (v ∷ []) (λ is. drop ! $ split ! $
-            move ! (1 ∷ []) $ split ! $ land-last ! (from ! (stop !)) (init ! 33 refl (EL.lawful Answer-row.the-type Answer-row′.the-laws 𝓤 H A W tt .typed m _ is .0)) $ rewrite ! 33 (λ (u : Val). ‵ (fat fullShare Answer-row′.mir l23 0 u)) (ap only (EL.tells Answer-row.the-type Answer-row′.the-laws m _ is)) refl $
+            move ! (2 ∷ []) $ split ! $ move ! (1 ∷ []) $ peeks ! Answered-row.the-row (Is Answered-row.the-row) (shows 𝓤 H A Answered-row.the-row) m (v ∷ []) (λ is. drop ! $ split ! $
+            move ! (1 ∷ []) $ split ! $ land-last ! (from ! (stop !)) (init ! 33 refl (LL.lawful Answered-row.the-type Answered-row′.the-laws 𝓤 H A W .typed m _ is .0)) $ rewrite ! 33 (λ (u : Val). ‵ (fat fullShare Answered-row′.mir l23 0 u)) (ap only (LL.tells Answered-row.the-type Answered-row′.the-laws m _ is)) refl $
             exec ! C Λ En pieces.t-2 (atRet En (Post call)) $ forget ! 29 refl $ forget ! 52 refl $
             keep ! (3 ∷ 2 ∷ 5 ∷ 0 ∷ 9 ∷ 6 ∷ 10 ∷ 11 ∷ 12 ∷ 13 ∷ 14 ∷ 15 ∷ 16 ∷ 17 ∷ 18 ∷ 19 ∷ 20 ∷ 21 ∷ 22 ∷ 23 ∷ 24 ∷ 25 ∷ 26 ∷ 27 ∷ 28 ∷ 29 ∷ 30 ∷ 31 ∷ 32 ∷ 33 ∷ 34 ∷ 35 ∷ 36 ∷ 37 ∷ 38 ∷ 39 ∷ 40 ∷ 41 ∷ 42 ∷ 43 ∷ 44 ∷ 45 ∷ 46 ∷ 47 ∷ 48 ∷ 49 ∷ 50 ∷ 51 ∷ 52 ∷ 53 ∷ 54 ∷ 55 ∷ 56 ∷ 57 ∷ 58 ∷ 59 ∷ 60 ∷ 61 ∷ 62 ∷ 63 ∷ 64 ∷ 65 ∷ 66 ∷ 67 ∷ 68 ∷ 69 ∷ 70 ∷ 71 ∷ 72 ∷ 73 ∷ 74 ∷ 75 ∷ 76 ∷ 77 ∷ 78 ∷ 79 ∷ 80 ∷ 81 ∷ 82 ∷ 83 ∷ 84 ∷ 85 ∷ 86 ∷ 87 ∷ 88 ∷ 89 ∷ 90 ∷ 91 ∷ 92 ∷ 93 ∷ 94 ∷ 95 ∷ 96 ∷ 97 ∷ 98 ∷ 99 ∷ 100 ∷ 101 ∷ 102 ∷ 103 ∷ []) $ answered (ws .0) m room (d .0 ∙ ap next s, d .1 ∙ ap answer s, z) (answer-is m _ is) refl)))))
 
         -- what `Fault` changes is carried out
-        carried-fault : {y2 y20 y43 : Val} (x : Change) → Is S.the-row x (LL.val S.the-type S′.the-laws x ∷ []) → changed h x ≡ doneOf (stepOf h (stepFor call f room)) → (zs : List ℕ) → zs ≡ roomFor h call room → length zs ≡ length room → Sq W (‵ (fobs γ (T.the-row .coded .code h)) ∷ ‵ (fbor κ (Body (mem T.the-row) b o γ)) ∷ ‵ (flft κ q) ∷ ‵ Bytes ∷ ‵ (flft κ-f q-f) ∷ ‵ (flft κ-room q-room) ∷ ‵ (finally u8 γ-room zs) ∷ ‵ (froom Answer-row′.mir l0 0) ∷ ‵ (fat fullShare (tyRef (named 0) mut rec-ty) l1 0 (vptr b o)) ∷ ‵ (fat fullShare Call-row′.mir l2 0 y2) ∷ ‵ (fat fullShare (sliceTy (tyRef (named 1) imm (tyInt w8))) l3 0 s-f) ∷ ‵ (fat fullShare (sliceTy (tyRef (named 2) mut (tyInt w8))) l4 0 s-room) ∷ ‵ (froom (tyInt w8) l5 0) ∷ ‵ (froom Control-row′.mir l6 0) ∷ ‵ (froom (tyInt w64) l7 0) ∷ ‵ (froom Row′.mir l8 0) ∷ ‵ (froom (tyInt w8) l9 0) ∷ ‵ (froom (tyInt w8) l10 0) ∷ ‵ (froom Sync-row′.mir l11 0) ∷ ‵ (froom out-ty l12 0) ∷ ‵ (froom out-ty l13 0) ∷ ‵ (froom (tyInt w8) l14 0) ∷ ‵ (froom Ruling-row′.mir l15 0) ∷ ‵ (froom (tyInt w64) l16 0) ∷ ‵ (froom Row′.mir l17 0) ∷ ‵ (froom out-ty l18 0) ∷ ‵ (froom tyBool l19 0) ∷ ‵ (fat fullShare Fault-row′.mir l20 0 y20) ∷ ‵ (fat fullShare out-ty l21 0 (LL.val S.the-type S′.the-laws x)) ∷ ‵ (froom out-ty l22 0) ∷ ‵ (froom Answer-row′.mir l23 0) ∷ ‵ (froom T′.mir l24 0) ∷ ‵ (froom (tyInt w64) l25 0) ∷ ‵ (froom tyPtr l26 0) ∷ ‵ (froom tyPtr l27 0) ∷ ‵ (froom Row′.mir l28 0) ∷ ‵ (froom (tyRef erased mut rec-ty) l29 0) ∷ ‵ (froom T′.mir l30 0) ∷ ‵ (froom (tyRef erased mut rec-ty) l31 0) ∷ ‵ (froom T′.mir l32 0) ∷ ‵ (froom (tyRef erased mut rec-ty) l33 0) ∷ ‵ (froom T′.mir l34 0) ∷ ‵ (froom (tyInt w64) l35 0) ∷ ‵ (froom tyPtr l36 0) ∷ ‵ (froom tyPtr l37 0) ∷ ‵ (froom Row′.mir l38 0) ∷ ‵ (froom (tyRef erased mut (tyInt w8)) l39 0) ∷ ‵ (froom (sliceTy (tyRef erased mut (tyInt w8))) l40 0) ∷ ‵ (froom (tyRef erased mut rec-ty) l41 0) ∷ ‵ (froom (tyRef erased mut rec-ty) l42 0) ∷ ‵ (fat fullShare T′.mir l43 0 y43) ∷ ‵ (froom (tyRef erased mut rec-ty) l44 0) ∷ ‵ (froom T′.mir l45 0) ∷ ‵ (froom (tyRef erased mut rec-ty) l46 0) ∷ Dies) (runs C Λ En (carrying 44 21) (anyQ (Next call)))
+        carried-fault : {y2 y20 y43 : Val} (x : Change) → Is S.the-row x (LL.val S.the-type S′.the-laws x ∷ []) → changed h x ≡ doneOf (stepOf h (stepFor call f room)) → (zs : List ℕ) → zs ≡ roomFor h call room → length zs ≡ length room → Sq W (‵ (fobs γ (T.the-row .coded .code h)) ∷ ‵ (fbor κ (Body (mem T.the-row) b o γ)) ∷ ‵ (flft κ q) ∷ ‵ Bytes ∷ ‵ (flft κ-f q-f) ∷ ‵ (flft κ-room q-room) ∷ ‵ (finally u8 γ-room zs) ∷ ‵ (froom Answered-row′.mir l0 0) ∷ ‵ (fat fullShare (tyRef (named 0) mut rec-ty) l1 0 (vptr b o)) ∷ ‵ (fat fullShare Call-row′.mir l2 0 y2) ∷ ‵ (fat fullShare (sliceTy (tyRef (named 1) imm (tyInt w8))) l3 0 s-f) ∷ ‵ (fat fullShare (sliceTy (tyRef (named 2) mut (tyInt w8))) l4 0 s-room) ∷ ‵ (froom (tyInt w8) l5 0) ∷ ‵ (froom Control-row′.mir l6 0) ∷ ‵ (froom (tyInt w64) l7 0) ∷ ‵ (froom Row′.mir l8 0) ∷ ‵ (froom (tyInt w8) l9 0) ∷ ‵ (froom (tyInt w8) l10 0) ∷ ‵ (froom Sync-row′.mir l11 0) ∷ ‵ (froom out-ty l12 0) ∷ ‵ (froom out-ty l13 0) ∷ ‵ (froom (tyInt w8) l14 0) ∷ ‵ (froom Ruling-row′.mir l15 0) ∷ ‵ (froom (tyInt w64) l16 0) ∷ ‵ (froom Row′.mir l17 0) ∷ ‵ (froom out-ty l18 0) ∷ ‵ (froom tyBool l19 0) ∷ ‵ (fat fullShare Fault-row′.mir l20 0 y20) ∷ ‵ (fat fullShare out-ty l21 0 (LL.val S.the-type S′.the-laws x)) ∷ ‵ (froom out-ty l22 0) ∷ ‵ (froom Answered-row′.mir l23 0) ∷ ‵ (froom T′.mir l24 0) ∷ ‵ (froom (tyInt w64) l25 0) ∷ ‵ (froom tyPtr l26 0) ∷ ‵ (froom tyPtr l27 0) ∷ ‵ (froom Row′.mir l28 0) ∷ ‵ (froom (tyRef erased mut rec-ty) l29 0) ∷ ‵ (froom T′.mir l30 0) ∷ ‵ (froom (tyRef erased mut rec-ty) l31 0) ∷ ‵ (froom T′.mir l32 0) ∷ ‵ (froom (tyRef erased mut rec-ty) l33 0) ∷ ‵ (froom T′.mir l34 0) ∷ ‵ (froom (tyInt w64) l35 0) ∷ ‵ (froom tyPtr l36 0) ∷ ‵ (froom tyPtr l37 0) ∷ ‵ (froom Row′.mir l38 0) ∷ ‵ (froom (tyRef erased mut (tyInt w8)) l39 0) ∷ ‵ (froom (sliceTy (tyRef erased mut (tyInt w8))) l40 0) ∷ ‵ (froom (tyRef erased mut rec-ty) l41 0) ∷ ‵ (froom (tyRef erased mut rec-ty) l42 0) ∷ ‵ (fat fullShare T′.mir l43 0 y43) ∷ ‵ (froom (tyRef erased mut rec-ty) l44 0) ∷ ‵ (froom T′.mir l45 0) ∷ ‵ (froom (tyRef erased mut rec-ty) l46 0) ∷ Dies) (runs C Λ En (carrying 44 21) (anyQ (Next call)))
         carried-fault x x-is e zs z l =
             assigns ! (addr ! (from ! (hop ! (look ! 8 refl) (stop !)))) (from ! (stop !)) (init ! 51 refl (tt, tt)) $
             group ! 3 $ use1 W (raw ((Carries 𝓤 H A at-mem run) .pre (to-carry x))) (asked-carry x x-is) $
             calls-at-last ! fm (Carries 𝓤 H A at-mem run) known-carries (to-carry x) (and-then ! (load ! (from ! (stop !)) (look ! 49 refl)) (and-then ! (load ! (from ! (stop !)) (look ! 26 refl)) (no-more !))) (λ v.
-            use1 W (later (some (λ (m : Answer). ((‵ (flft κ q) ⊛ ‵ ftrue) ⊛ ‵ (Answer-row.the-row .own m (v ∷ []))) ⊛ raw (ensured 𝓤 H A carries.ended (carries.clauses 𝓤 H A at-mem run) (κ, tt) (args-carry x) tt m)))) (id⊢ 𝓤 _) $ await ! tt $ pick ! (λ m.
-            split ! $ move ! (1 ∷ []) $ use1 W (some (λ (ws : Lasts carries.ended (κ, tt) (args-carry x)). ‵ (lasts carries.ended (κ, tt) (args-carry x) ws) ⊛ raw (fact 𝓤 ((ws .0 ≡ changed h x .next) × (m ≡ x .answer))))) (id⊢ 𝓤 _) $ pick ! (λ ws.
-            split ! $ move ! (1 ∷ []) $ heard ! ((ws .0 ≡ changed h x .next) × (m ≡ x .answer)) (λ d. fsplit ! $
-            move ! (2 ∷ []) $ split ! $ move ! (1 ∷ []) $ peeks ! Answer-row.the-row (Is Answer-row.the-row) (shows 𝓤 H A Answer-row.the-row) m (v ∷ []) (λ is. drop ! $ split ! $
-            land-last ! (from ! (stop !)) (init ! 31 refl (EL.lawful Answer-row.the-type Answer-row′.the-laws 𝓤 H A W tt .typed m _ is .0)) $ rewrite ! 31 (λ (u : Val). ‵ (fat fullShare Answer-row′.mir l23 0 u)) (ap only (EL.tells Answer-row.the-type Answer-row′.the-laws m _ is)) refl $
+            use1 W (later (some (λ (m : Answered). ((‵ (flft κ q) ⊛ ‵ ftrue) ⊛ ‵ (Answered-row.the-row .own m (v ∷ []))) ⊛ raw (ensured 𝓤 H A carries.ended (carries.clauses 𝓤 H A at-mem run) (κ, tt) (args-carry x) tt m)))) (id⊢ 𝓤 _) $ await ! tt $ pick ! (λ m.
+            split ! $ move ! (1 ∷ []) $ use1 W (some (λ (ws : Lasts carries.ended (κ, tt) (args-carry x)). ‵ (lasts carries.ended (κ, tt) (args-carry x) ws) ⊛ raw (fact 𝓤 ((ws .0 ≡ changed h x .next) × (m ≡ x .answered))))) (id⊢ 𝓤 _) $ pick ! (λ ws.
+            split ! $ move ! (1 ∷ []) $ heard ! ((ws .0 ≡ changed h x .next) × (m ≡ x .answered)) (λ d. fsplit ! $
+            move ! (2 ∷ []) $ split ! $ move ! (1 ∷ []) $ peeks ! Answered-row.the-row (Is Answered-row.the-row) (shows 𝓤 H A Answered-row.the-row) m (v ∷ []) (λ is. drop ! $ split ! $
+            land-last ! (from ! (stop !)) (init ! 31 refl (LL.lawful Answered-row.the-type Answered-row′.the-laws 𝓤 H A W .typed m _ is .0)) $ rewrite ! 31 (λ (u : Val). ‵ (fat fullShare Answered-row′.mir l23 0 u)) (ap only (LL.tells Answered-row.the-type Answered-row′.the-laws m _ is)) refl $
             exec ! C Λ En pieces.t-2 (atRet En (Post call)) $ forget ! 28 refl $ forget ! 29 refl $ forget ! 51 refl $ forget ! 52 refl $
-            keep ! (2 ∷ 0 ∷ 4 ∷ 5 ∷ 6 ∷ 7 ∷ 8 ∷ 9 ∷ 10 ∷ 11 ∷ 12 ∷ 13 ∷ 14 ∷ 15 ∷ 16 ∷ 17 ∷ 18 ∷ 19 ∷ 20 ∷ 21 ∷ 22 ∷ 23 ∷ 24 ∷ 25 ∷ 26 ∷ 27 ∷ 28 ∷ 29 ∷ 30 ∷ 31 ∷ 32 ∷ 33 ∷ 34 ∷ 35 ∷ 36 ∷ 37 ∷ 38 ∷ 39 ∷ 40 ∷ 41 ∷ 42 ∷ 43 ∷ 44 ∷ 45 ∷ 46 ∷ 47 ∷ 48 ∷ 49 ∷ 50 ∷ 51 ∷ 52 ∷ 53 ∷ 54 ∷ 55 ∷ 56 ∷ 57 ∷ 58 ∷ 59 ∷ 60 ∷ 61 ∷ 62 ∷ 63 ∷ 64 ∷ 65 ∷ 66 ∷ 67 ∷ 68 ∷ 69 ∷ 70 ∷ 71 ∷ 72 ∷ 73 ∷ 74 ∷ 75 ∷ 76 ∷ 77 ∷ 78 ∷ 79 ∷ 80 ∷ 81 ∷ 82 ∷ 83 ∷ 84 ∷ 85 ∷ 86 ∷ 87 ∷ 88 ∷ 89 ∷ 90 ∷ 91 ∷ 92 ∷ 93 ∷ 94 ∷ 95 ∷ 96 ∷ 97 ∷ 98 ∷ 99 ∷ 100 ∷ 101 ∷ []) $ answered (ws .0) m zs (d .0 ∙ ap (λ (u : Done). u .next) e, d .1 ∙ ap (λ (u : Done). u .answer) e, z) (answer-is m _ is) l)))))
+            keep ! (2 ∷ 0 ∷ 4 ∷ 5 ∷ 6 ∷ 7 ∷ 8 ∷ 9 ∷ 10 ∷ 11 ∷ 12 ∷ 13 ∷ 14 ∷ 15 ∷ 16 ∷ 17 ∷ 18 ∷ 19 ∷ 20 ∷ 21 ∷ 22 ∷ 23 ∷ 24 ∷ 25 ∷ 26 ∷ 27 ∷ 28 ∷ 29 ∷ 30 ∷ 31 ∷ 32 ∷ 33 ∷ 34 ∷ 35 ∷ 36 ∷ 37 ∷ 38 ∷ 39 ∷ 40 ∷ 41 ∷ 42 ∷ 43 ∷ 44 ∷ 45 ∷ 46 ∷ 47 ∷ 48 ∷ 49 ∷ 50 ∷ 51 ∷ 52 ∷ 53 ∷ 54 ∷ 55 ∷ 56 ∷ 57 ∷ 58 ∷ 59 ∷ 60 ∷ 61 ∷ 62 ∷ 63 ∷ 64 ∷ 65 ∷ 66 ∷ 67 ∷ 68 ∷ 69 ∷ 70 ∷ 71 ∷ 72 ∷ 73 ∷ 74 ∷ 75 ∷ 76 ∷ 77 ∷ 78 ∷ 79 ∷ 80 ∷ 81 ∷ 82 ∷ 83 ∷ 84 ∷ 85 ∷ 86 ∷ 87 ∷ 88 ∷ 89 ∷ 90 ∷ 91 ∷ 92 ∷ 93 ∷ 94 ∷ 95 ∷ 96 ∷ 97 ∷ 98 ∷ 99 ∷ 100 ∷ 101 ∷ []) $ answered (ws .0) m zs (d .0 ∙ ap (λ (u : Done). u .next) e, d .1 ∙ ap answerIn e, z) (answer-is m _ is) l)))))
 
         -- Fault
-        on-fault : {y2 : Val} (k : FaultKind) → Is Fault-row.the-row k (EL.val Fault-row.the-type Fault-row′.the-laws k ∷ []) → fault k ≡ stepFor call f room → room ≡ roomFor h call room → Sq W (‵ Rec ∷ ‵ (flft κ q) ∷ ‵ Bytes ∷ ‵ (flft κ-f q-f) ∷ ‵ Room′ ∷ ‵ (flft κ-room q-room) ∷ ‵ (froom Answer-row′.mir l0 0) ∷ ‵ (fat fullShare (tyRef (named 0) mut rec-ty) l1 0 (vptr b o)) ∷ ‵ (fat fullShare Call-row′.mir l2 0 y2) ∷ ‵ (fat fullShare (sliceTy (tyRef (named 1) imm (tyInt w8))) l3 0 s-f) ∷ ‵ (fat fullShare (sliceTy (tyRef (named 2) mut (tyInt w8))) l4 0 s-room) ∷ ‵ (froom (tyInt w8) l5 0) ∷ ‵ (froom Control-row′.mir l6 0) ∷ ‵ (froom (tyInt w64) l7 0) ∷ ‵ (froom Row′.mir l8 0) ∷ ‵ (froom (tyInt w8) l9 0) ∷ ‵ (froom (tyInt w8) l10 0) ∷ ‵ (froom Sync-row′.mir l11 0) ∷ ‵ (froom out-ty l12 0) ∷ ‵ (froom out-ty l13 0) ∷ ‵ (froom (tyInt w8) l14 0) ∷ ‵ (froom Ruling-row′.mir l15 0) ∷ ‵ (froom (tyInt w64) l16 0) ∷ ‵ (froom Row′.mir l17 0) ∷ ‵ (froom out-ty l18 0) ∷ ‵ (froom tyBool l19 0) ∷ ‵ (fat fullShare Fault-row′.mir l20 0 (EL.val Fault-row.the-type Fault-row′.the-laws k)) ∷ ‵ (froom out-ty l21 0) ∷ ‵ (froom out-ty l22 0) ∷ ‵ (froom Answer-row′.mir l23 0) ∷ ‵ (froom T′.mir l24 0) ∷ ‵ (froom (tyInt w64) l25 0) ∷ ‵ (froom tyPtr l26 0) ∷ ‵ (froom tyPtr l27 0) ∷ ‵ (froom Row′.mir l28 0) ∷ ‵ (froom (tyRef erased mut rec-ty) l29 0) ∷ ‵ (froom T′.mir l30 0) ∷ ‵ (froom (tyRef erased mut rec-ty) l31 0) ∷ ‵ (froom T′.mir l32 0) ∷ ‵ (froom (tyRef erased mut rec-ty) l33 0) ∷ ‵ (froom T′.mir l34 0) ∷ ‵ (froom (tyInt w64) l35 0) ∷ ‵ (froom tyPtr l36 0) ∷ ‵ (froom tyPtr l37 0) ∷ ‵ (froom Row′.mir l38 0) ∷ ‵ (froom (tyRef erased mut (tyInt w8)) l39 0) ∷ ‵ (froom (sliceTy (tyRef erased mut (tyInt w8))) l40 0) ∷ ‵ (froom (tyRef erased mut rec-ty) l41 0) ∷ ‵ (froom (tyRef erased mut rec-ty) l42 0) ∷ ‵ (froom T′.mir l43 0) ∷ ‵ (froom (tyRef erased mut rec-ty) l44 0) ∷ ‵ (froom T′.mir l45 0) ∷ ‵ (froom (tyRef erased mut rec-ty) l46 0) ∷ Dies) (runs C Λ En code-fault (anyQ (Next call)))
+        on-fault : {y2 : Val} (k : FaultKind) → Is Fault-row.the-row k (EL.val Fault-row.the-type Fault-row′.the-laws k ∷ []) → fault k ≡ stepFor call f room → room ≡ roomFor h call room → Sq W (‵ Rec ∷ ‵ (flft κ q) ∷ ‵ Bytes ∷ ‵ (flft κ-f q-f) ∷ ‵ Room′ ∷ ‵ (flft κ-room q-room) ∷ ‵ (froom Answered-row′.mir l0 0) ∷ ‵ (fat fullShare (tyRef (named 0) mut rec-ty) l1 0 (vptr b o)) ∷ ‵ (fat fullShare Call-row′.mir l2 0 y2) ∷ ‵ (fat fullShare (sliceTy (tyRef (named 1) imm (tyInt w8))) l3 0 s-f) ∷ ‵ (fat fullShare (sliceTy (tyRef (named 2) mut (tyInt w8))) l4 0 s-room) ∷ ‵ (froom (tyInt w8) l5 0) ∷ ‵ (froom Control-row′.mir l6 0) ∷ ‵ (froom (tyInt w64) l7 0) ∷ ‵ (froom Row′.mir l8 0) ∷ ‵ (froom (tyInt w8) l9 0) ∷ ‵ (froom (tyInt w8) l10 0) ∷ ‵ (froom Sync-row′.mir l11 0) ∷ ‵ (froom out-ty l12 0) ∷ ‵ (froom out-ty l13 0) ∷ ‵ (froom (tyInt w8) l14 0) ∷ ‵ (froom Ruling-row′.mir l15 0) ∷ ‵ (froom (tyInt w64) l16 0) ∷ ‵ (froom Row′.mir l17 0) ∷ ‵ (froom out-ty l18 0) ∷ ‵ (froom tyBool l19 0) ∷ ‵ (fat fullShare Fault-row′.mir l20 0 (EL.val Fault-row.the-type Fault-row′.the-laws k)) ∷ ‵ (froom out-ty l21 0) ∷ ‵ (froom out-ty l22 0) ∷ ‵ (froom Answered-row′.mir l23 0) ∷ ‵ (froom T′.mir l24 0) ∷ ‵ (froom (tyInt w64) l25 0) ∷ ‵ (froom tyPtr l26 0) ∷ ‵ (froom tyPtr l27 0) ∷ ‵ (froom Row′.mir l28 0) ∷ ‵ (froom (tyRef erased mut rec-ty) l29 0) ∷ ‵ (froom T′.mir l30 0) ∷ ‵ (froom (tyRef erased mut rec-ty) l31 0) ∷ ‵ (froom T′.mir l32 0) ∷ ‵ (froom (tyRef erased mut rec-ty) l33 0) ∷ ‵ (froom T′.mir l34 0) ∷ ‵ (froom (tyInt w64) l35 0) ∷ ‵ (froom tyPtr l36 0) ∷ ‵ (froom tyPtr l37 0) ∷ ‵ (froom Row′.mir l38 0) ∷ ‵ (froom (tyRef erased mut (tyInt w8)) l39 0) ∷ ‵ (froom (sliceTy (tyRef erased mut (tyInt w8))) l40 0) ∷ ‵ (froom (tyRef erased mut rec-ty) l41 0) ∷ ‵ (froom (tyRef erased mut rec-ty) l42 0) ∷ ‵ (froom T′.mir l43 0) ∷ ‵ (froom (tyRef erased mut rec-ty) l44 0) ∷ ‵ (froom T′.mir l45 0) ∷ ‵ (froom (tyRef erased mut rec-ty) l46 0) ∷ Dies) (runs C Λ En code-fault (anyQ (Next call)))
         on-fault k k-is s z =
             fsplit3 ! $ drop ! $
             opens ! tt T.the-row {h = h} b o (λ vs. spelt ! T.the-row (Is T.the-row) (shows 𝓤 H A T.the-row) (LL.vals T.the-type T′.the-laws) (LL.tells T.the-type T′.the-laws) fullShare h vs b o $
@@ -788,21 +804,21 @@ module _ {M : Type 1} (𝓤 : URA M) (H : Heap 𝓤) (A : Atoms 𝓤) (W : Given
             keep ! (3 ∷ 4 ∷ 5 ∷ 6 ∷ 7 ∷ 8 ∷ 0 ∷ 9 ∷ 10 ∷ 11 ∷ 12 ∷ 13 ∷ 14 ∷ 15 ∷ 16 ∷ 17 ∷ 18 ∷ 19 ∷ 20 ∷ 21 ∷ 22 ∷ 23 ∷ 24 ∷ 25 ∷ 26 ∷ 27 ∷ 28 ∷ 29 ∷ 30 ∷ 31 ∷ 32 ∷ 33 ∷ 34 ∷ 35 ∷ 36 ∷ 37 ∷ 38 ∷ 39 ∷ 40 ∷ 41 ∷ 42 ∷ 43 ∷ 44 ∷ 45 ∷ 46 ∷ 47 ∷ 48 ∷ 49 ∷ 50 ∷ 51 ∷ 52 ∷ 53 ∷ 54 ∷ 55 ∷ 56 ∷ 57 ∷ 58 ∷ 59 ∷ 60 ∷ 61 ∷ 62 ∷ 63 ∷ 64 ∷ 65 ∷ 66 ∷ 67 ∷ 68 ∷ 69 ∷ 70 ∷ 71 ∷ 72 ∷ 73 ∷ 74 ∷ 75 ∷ 76 ∷ 77 ∷ 78 ∷ 79 ∷ 80 ∷ 81 ∷ 82 ∷ 83 ∷ 84 ∷ 85 ∷ 86 ∷ 87 ∷ 88 ∷ 89 ∷ 90 ∷ 91 ∷ 92 ∷ 93 ∷ 94 ∷ 95 ∷ 96 ∷ 97 ∷ 98 ∷ 99 ∷ 100 ∷ 101 ∷ 102 ∷ []) $ carried-fault x (change-is x _ is) (ap (changed h) e ∙ fault-changes h k ∙ ap (λ (s : Step). doneOf (stepOf h s)) s) room z refl)))))))
 
         -- what `Timeout` changes is carried out
-        carried-timeout : {y2 y45 : Val} (x : Change) → Is S.the-row x (LL.val S.the-type S′.the-laws x ∷ []) → changed h x ≡ doneOf (stepOf h (stepFor call f room)) → (zs : List ℕ) → zs ≡ roomFor h call room → length zs ≡ length room → Sq W (‵ (fobs γ (T.the-row .coded .code h)) ∷ ‵ (fbor κ (Body (mem T.the-row) b o γ)) ∷ ‵ (flft κ q) ∷ ‵ Bytes ∷ ‵ (flft κ-f q-f) ∷ ‵ (flft κ-room q-room) ∷ ‵ (finally u8 γ-room zs) ∷ ‵ (froom Answer-row′.mir l0 0) ∷ ‵ (fat fullShare (tyRef (named 0) mut rec-ty) l1 0 (vptr b o)) ∷ ‵ (fat fullShare Call-row′.mir l2 0 y2) ∷ ‵ (fat fullShare (sliceTy (tyRef (named 1) imm (tyInt w8))) l3 0 s-f) ∷ ‵ (fat fullShare (sliceTy (tyRef (named 2) mut (tyInt w8))) l4 0 s-room) ∷ ‵ (froom (tyInt w8) l5 0) ∷ ‵ (froom Control-row′.mir l6 0) ∷ ‵ (froom (tyInt w64) l7 0) ∷ ‵ (froom Row′.mir l8 0) ∷ ‵ (froom (tyInt w8) l9 0) ∷ ‵ (froom (tyInt w8) l10 0) ∷ ‵ (froom Sync-row′.mir l11 0) ∷ ‵ (froom out-ty l12 0) ∷ ‵ (froom out-ty l13 0) ∷ ‵ (froom (tyInt w8) l14 0) ∷ ‵ (froom Ruling-row′.mir l15 0) ∷ ‵ (froom (tyInt w64) l16 0) ∷ ‵ (froom Row′.mir l17 0) ∷ ‵ (froom out-ty l18 0) ∷ ‵ (froom tyBool l19 0) ∷ ‵ (froom Fault-row′.mir l20 0) ∷ ‵ (froom out-ty l21 0) ∷ ‵ (fat fullShare out-ty l22 0 (LL.val S.the-type S′.the-laws x)) ∷ ‵ (froom Answer-row′.mir l23 0) ∷ ‵ (froom T′.mir l24 0) ∷ ‵ (froom (tyInt w64) l25 0) ∷ ‵ (froom tyPtr l26 0) ∷ ‵ (froom tyPtr l27 0) ∷ ‵ (froom Row′.mir l28 0) ∷ ‵ (froom (tyRef erased mut rec-ty) l29 0) ∷ ‵ (froom T′.mir l30 0) ∷ ‵ (froom (tyRef erased mut rec-ty) l31 0) ∷ ‵ (froom T′.mir l32 0) ∷ ‵ (froom (tyRef erased mut rec-ty) l33 0) ∷ ‵ (froom T′.mir l34 0) ∷ ‵ (froom (tyInt w64) l35 0) ∷ ‵ (froom tyPtr l36 0) ∷ ‵ (froom tyPtr l37 0) ∷ ‵ (froom Row′.mir l38 0) ∷ ‵ (froom (tyRef erased mut (tyInt w8)) l39 0) ∷ ‵ (froom (sliceTy (tyRef erased mut (tyInt w8))) l40 0) ∷ ‵ (froom (tyRef erased mut rec-ty) l41 0) ∷ ‵ (froom (tyRef erased mut rec-ty) l42 0) ∷ ‵ (froom T′.mir l43 0) ∷ ‵ (froom (tyRef erased mut rec-ty) l44 0) ∷ ‵ (fat fullShare T′.mir l45 0 y45) ∷ ‵ (froom (tyRef erased mut rec-ty) l46 0) ∷ Dies) (runs C Λ En (carrying 46 22) (anyQ (Next call)))
+        carried-timeout : {y2 y45 : Val} (x : Change) → Is S.the-row x (LL.val S.the-type S′.the-laws x ∷ []) → changed h x ≡ doneOf (stepOf h (stepFor call f room)) → (zs : List ℕ) → zs ≡ roomFor h call room → length zs ≡ length room → Sq W (‵ (fobs γ (T.the-row .coded .code h)) ∷ ‵ (fbor κ (Body (mem T.the-row) b o γ)) ∷ ‵ (flft κ q) ∷ ‵ Bytes ∷ ‵ (flft κ-f q-f) ∷ ‵ (flft κ-room q-room) ∷ ‵ (finally u8 γ-room zs) ∷ ‵ (froom Answered-row′.mir l0 0) ∷ ‵ (fat fullShare (tyRef (named 0) mut rec-ty) l1 0 (vptr b o)) ∷ ‵ (fat fullShare Call-row′.mir l2 0 y2) ∷ ‵ (fat fullShare (sliceTy (tyRef (named 1) imm (tyInt w8))) l3 0 s-f) ∷ ‵ (fat fullShare (sliceTy (tyRef (named 2) mut (tyInt w8))) l4 0 s-room) ∷ ‵ (froom (tyInt w8) l5 0) ∷ ‵ (froom Control-row′.mir l6 0) ∷ ‵ (froom (tyInt w64) l7 0) ∷ ‵ (froom Row′.mir l8 0) ∷ ‵ (froom (tyInt w8) l9 0) ∷ ‵ (froom (tyInt w8) l10 0) ∷ ‵ (froom Sync-row′.mir l11 0) ∷ ‵ (froom out-ty l12 0) ∷ ‵ (froom out-ty l13 0) ∷ ‵ (froom (tyInt w8) l14 0) ∷ ‵ (froom Ruling-row′.mir l15 0) ∷ ‵ (froom (tyInt w64) l16 0) ∷ ‵ (froom Row′.mir l17 0) ∷ ‵ (froom out-ty l18 0) ∷ ‵ (froom tyBool l19 0) ∷ ‵ (froom Fault-row′.mir l20 0) ∷ ‵ (froom out-ty l21 0) ∷ ‵ (fat fullShare out-ty l22 0 (LL.val S.the-type S′.the-laws x)) ∷ ‵ (froom Answered-row′.mir l23 0) ∷ ‵ (froom T′.mir l24 0) ∷ ‵ (froom (tyInt w64) l25 0) ∷ ‵ (froom tyPtr l26 0) ∷ ‵ (froom tyPtr l27 0) ∷ ‵ (froom Row′.mir l28 0) ∷ ‵ (froom (tyRef erased mut rec-ty) l29 0) ∷ ‵ (froom T′.mir l30 0) ∷ ‵ (froom (tyRef erased mut rec-ty) l31 0) ∷ ‵ (froom T′.mir l32 0) ∷ ‵ (froom (tyRef erased mut rec-ty) l33 0) ∷ ‵ (froom T′.mir l34 0) ∷ ‵ (froom (tyInt w64) l35 0) ∷ ‵ (froom tyPtr l36 0) ∷ ‵ (froom tyPtr l37 0) ∷ ‵ (froom Row′.mir l38 0) ∷ ‵ (froom (tyRef erased mut (tyInt w8)) l39 0) ∷ ‵ (froom (sliceTy (tyRef erased mut (tyInt w8))) l40 0) ∷ ‵ (froom (tyRef erased mut rec-ty) l41 0) ∷ ‵ (froom (tyRef erased mut rec-ty) l42 0) ∷ ‵ (froom T′.mir l43 0) ∷ ‵ (froom (tyRef erased mut rec-ty) l44 0) ∷ ‵ (fat fullShare T′.mir l45 0 y45) ∷ ‵ (froom (tyRef erased mut rec-ty) l46 0) ∷ Dies) (runs C Λ En (carrying 46 22) (anyQ (Next call)))
         carried-timeout x x-is e zs z l =
             assigns ! (addr ! (from ! (hop ! (look ! 8 refl) (stop !)))) (from ! (stop !)) (init ! 53 refl (tt, tt)) $
             group ! 3 $ use1 W (raw ((Carries 𝓤 H A at-mem run) .pre (to-carry x))) (asked-carry x x-is) $
             calls-at-last ! fm (Carries 𝓤 H A at-mem run) known-carries (to-carry x) (and-then ! (load ! (from ! (stop !)) (look ! 51 refl)) (and-then ! (load ! (from ! (stop !)) (look ! 27 refl)) (no-more !))) (λ v.
-            use1 W (later (some (λ (m : Answer). ((‵ (flft κ q) ⊛ ‵ ftrue) ⊛ ‵ (Answer-row.the-row .own m (v ∷ []))) ⊛ raw (ensured 𝓤 H A carries.ended (carries.clauses 𝓤 H A at-mem run) (κ, tt) (args-carry x) tt m)))) (id⊢ 𝓤 _) $ await ! tt $ pick ! (λ m.
-            split ! $ move ! (1 ∷ []) $ use1 W (some (λ (ws : Lasts carries.ended (κ, tt) (args-carry x)). ‵ (lasts carries.ended (κ, tt) (args-carry x) ws) ⊛ raw (fact 𝓤 ((ws .0 ≡ changed h x .next) × (m ≡ x .answer))))) (id⊢ 𝓤 _) $ pick ! (λ ws.
-            split ! $ move ! (1 ∷ []) $ heard ! ((ws .0 ≡ changed h x .next) × (m ≡ x .answer)) (λ d. fsplit ! $
-            move ! (2 ∷ []) $ split ! $ move ! (1 ∷ []) $ peeks ! Answer-row.the-row (Is Answer-row.the-row) (shows 𝓤 H A Answer-row.the-row) m (v ∷ []) (λ is. drop ! $ split ! $
-            land-last ! (from ! (stop !)) (init ! 31 refl (EL.lawful Answer-row.the-type Answer-row′.the-laws 𝓤 H A W tt .typed m _ is .0)) $ rewrite ! 31 (λ (u : Val). ‵ (fat fullShare Answer-row′.mir l23 0 u)) (ap only (EL.tells Answer-row.the-type Answer-row′.the-laws m _ is)) refl $
+            use1 W (later (some (λ (m : Answered). ((‵ (flft κ q) ⊛ ‵ ftrue) ⊛ ‵ (Answered-row.the-row .own m (v ∷ []))) ⊛ raw (ensured 𝓤 H A carries.ended (carries.clauses 𝓤 H A at-mem run) (κ, tt) (args-carry x) tt m)))) (id⊢ 𝓤 _) $ await ! tt $ pick ! (λ m.
+            split ! $ move ! (1 ∷ []) $ use1 W (some (λ (ws : Lasts carries.ended (κ, tt) (args-carry x)). ‵ (lasts carries.ended (κ, tt) (args-carry x) ws) ⊛ raw (fact 𝓤 ((ws .0 ≡ changed h x .next) × (m ≡ x .answered))))) (id⊢ 𝓤 _) $ pick ! (λ ws.
+            split ! $ move ! (1 ∷ []) $ heard ! ((ws .0 ≡ changed h x .next) × (m ≡ x .answered)) (λ d. fsplit ! $
+            move ! (2 ∷ []) $ split ! $ move ! (1 ∷ []) $ peeks ! Answered-row.the-row (Is Answered-row.the-row) (shows 𝓤 H A Answered-row.the-row) m (v ∷ []) (λ is. drop ! $ split ! $
+            land-last ! (from ! (stop !)) (init ! 31 refl (LL.lawful Answered-row.the-type Answered-row′.the-laws 𝓤 H A W .typed m _ is .0)) $ rewrite ! 31 (λ (u : Val). ‵ (fat fullShare Answered-row′.mir l23 0 u)) (ap only (LL.tells Answered-row.the-type Answered-row′.the-laws m _ is)) refl $
             exec ! C Λ En pieces.t-2 (atRet En (Post call)) $ forget ! 30 refl $ forget ! 53 refl $ forget ! 54 refl $
-            keep ! (2 ∷ 0 ∷ 4 ∷ 5 ∷ 6 ∷ 7 ∷ 8 ∷ 9 ∷ 10 ∷ 11 ∷ 12 ∷ 13 ∷ 14 ∷ 15 ∷ 16 ∷ 17 ∷ 18 ∷ 19 ∷ 20 ∷ 21 ∷ 22 ∷ 23 ∷ 24 ∷ 25 ∷ 26 ∷ 27 ∷ 28 ∷ 29 ∷ 30 ∷ 31 ∷ 32 ∷ 33 ∷ 34 ∷ 35 ∷ 36 ∷ 37 ∷ 38 ∷ 39 ∷ 40 ∷ 41 ∷ 42 ∷ 43 ∷ 44 ∷ 45 ∷ 46 ∷ 47 ∷ 48 ∷ 49 ∷ 50 ∷ 51 ∷ 52 ∷ 53 ∷ 54 ∷ 55 ∷ 56 ∷ 57 ∷ 58 ∷ 59 ∷ 60 ∷ 61 ∷ 62 ∷ 63 ∷ 64 ∷ 65 ∷ 66 ∷ 67 ∷ 68 ∷ 69 ∷ 70 ∷ 71 ∷ 72 ∷ 73 ∷ 74 ∷ 75 ∷ 76 ∷ 77 ∷ 78 ∷ 79 ∷ 80 ∷ 81 ∷ 82 ∷ 83 ∷ 84 ∷ 85 ∷ 86 ∷ 87 ∷ 88 ∷ 89 ∷ 90 ∷ 91 ∷ 92 ∷ 93 ∷ 94 ∷ 95 ∷ 96 ∷ 97 ∷ 98 ∷ 99 ∷ 100 ∷ 101 ∷ []) $ answered (ws .0) m zs (d .0 ∙ ap (λ (u : Done). u .next) e, d .1 ∙ ap (λ (u : Done). u .answer) e, z) (answer-is m _ is) l)))))
+            keep ! (2 ∷ 0 ∷ 4 ∷ 5 ∷ 6 ∷ 7 ∷ 8 ∷ 9 ∷ 10 ∷ 11 ∷ 12 ∷ 13 ∷ 14 ∷ 15 ∷ 16 ∷ 17 ∷ 18 ∷ 19 ∷ 20 ∷ 21 ∷ 22 ∷ 23 ∷ 24 ∷ 25 ∷ 26 ∷ 27 ∷ 28 ∷ 29 ∷ 30 ∷ 31 ∷ 32 ∷ 33 ∷ 34 ∷ 35 ∷ 36 ∷ 37 ∷ 38 ∷ 39 ∷ 40 ∷ 41 ∷ 42 ∷ 43 ∷ 44 ∷ 45 ∷ 46 ∷ 47 ∷ 48 ∷ 49 ∷ 50 ∷ 51 ∷ 52 ∷ 53 ∷ 54 ∷ 55 ∷ 56 ∷ 57 ∷ 58 ∷ 59 ∷ 60 ∷ 61 ∷ 62 ∷ 63 ∷ 64 ∷ 65 ∷ 66 ∷ 67 ∷ 68 ∷ 69 ∷ 70 ∷ 71 ∷ 72 ∷ 73 ∷ 74 ∷ 75 ∷ 76 ∷ 77 ∷ 78 ∷ 79 ∷ 80 ∷ 81 ∷ 82 ∷ 83 ∷ 84 ∷ 85 ∷ 86 ∷ 87 ∷ 88 ∷ 89 ∷ 90 ∷ 91 ∷ 92 ∷ 93 ∷ 94 ∷ 95 ∷ 96 ∷ 97 ∷ 98 ∷ 99 ∷ 100 ∷ 101 ∷ []) $ answered (ws .0) m zs (d .0 ∙ ap (λ (u : Done). u .next) e, d .1 ∙ ap answerIn e, z) (answer-is m _ is) l)))))
 
         -- Timeout
-        on-timeout : {y2 : Val} → timeout ≡ stepFor call f room → room ≡ roomFor h call room → Sq W (‵ Rec ∷ ‵ (flft κ q) ∷ ‵ Bytes ∷ ‵ (flft κ-f q-f) ∷ ‵ Room′ ∷ ‵ (flft κ-room q-room) ∷ ‵ (froom Answer-row′.mir l0 0) ∷ ‵ (fat fullShare (tyRef (named 0) mut rec-ty) l1 0 (vptr b o)) ∷ ‵ (fat fullShare Call-row′.mir l2 0 y2) ∷ ‵ (fat fullShare (sliceTy (tyRef (named 1) imm (tyInt w8))) l3 0 s-f) ∷ ‵ (fat fullShare (sliceTy (tyRef (named 2) mut (tyInt w8))) l4 0 s-room) ∷ ‵ (froom (tyInt w8) l5 0) ∷ ‵ (froom Control-row′.mir l6 0) ∷ ‵ (froom (tyInt w64) l7 0) ∷ ‵ (froom Row′.mir l8 0) ∷ ‵ (froom (tyInt w8) l9 0) ∷ ‵ (froom (tyInt w8) l10 0) ∷ ‵ (froom Sync-row′.mir l11 0) ∷ ‵ (froom out-ty l12 0) ∷ ‵ (froom out-ty l13 0) ∷ ‵ (froom (tyInt w8) l14 0) ∷ ‵ (froom Ruling-row′.mir l15 0) ∷ ‵ (froom (tyInt w64) l16 0) ∷ ‵ (froom Row′.mir l17 0) ∷ ‵ (froom out-ty l18 0) ∷ ‵ (froom tyBool l19 0) ∷ ‵ (froom Fault-row′.mir l20 0) ∷ ‵ (froom out-ty l21 0) ∷ ‵ (froom out-ty l22 0) ∷ ‵ (froom Answer-row′.mir l23 0) ∷ ‵ (froom T′.mir l24 0) ∷ ‵ (froom (tyInt w64) l25 0) ∷ ‵ (froom tyPtr l26 0) ∷ ‵ (froom tyPtr l27 0) ∷ ‵ (froom Row′.mir l28 0) ∷ ‵ (froom (tyRef erased mut rec-ty) l29 0) ∷ ‵ (froom T′.mir l30 0) ∷ ‵ (froom (tyRef erased mut rec-ty) l31 0) ∷ ‵ (froom T′.mir l32 0) ∷ ‵ (froom (tyRef erased mut rec-ty) l33 0) ∷ ‵ (froom T′.mir l34 0) ∷ ‵ (froom (tyInt w64) l35 0) ∷ ‵ (froom tyPtr l36 0) ∷ ‵ (froom tyPtr l37 0) ∷ ‵ (froom Row′.mir l38 0) ∷ ‵ (froom (tyRef erased mut (tyInt w8)) l39 0) ∷ ‵ (froom (sliceTy (tyRef erased mut (tyInt w8))) l40 0) ∷ ‵ (froom (tyRef erased mut rec-ty) l41 0) ∷ ‵ (froom (tyRef erased mut rec-ty) l42 0) ∷ ‵ (froom T′.mir l43 0) ∷ ‵ (froom (tyRef erased mut rec-ty) l44 0) ∷ ‵ (froom T′.mir l45 0) ∷ ‵ (froom (tyRef erased mut rec-ty) l46 0) ∷ Dies) (runs C Λ En code-timeout (anyQ (Next call)))
+        on-timeout : {y2 : Val} → timeout ≡ stepFor call f room → room ≡ roomFor h call room → Sq W (‵ Rec ∷ ‵ (flft κ q) ∷ ‵ Bytes ∷ ‵ (flft κ-f q-f) ∷ ‵ Room′ ∷ ‵ (flft κ-room q-room) ∷ ‵ (froom Answered-row′.mir l0 0) ∷ ‵ (fat fullShare (tyRef (named 0) mut rec-ty) l1 0 (vptr b o)) ∷ ‵ (fat fullShare Call-row′.mir l2 0 y2) ∷ ‵ (fat fullShare (sliceTy (tyRef (named 1) imm (tyInt w8))) l3 0 s-f) ∷ ‵ (fat fullShare (sliceTy (tyRef (named 2) mut (tyInt w8))) l4 0 s-room) ∷ ‵ (froom (tyInt w8) l5 0) ∷ ‵ (froom Control-row′.mir l6 0) ∷ ‵ (froom (tyInt w64) l7 0) ∷ ‵ (froom Row′.mir l8 0) ∷ ‵ (froom (tyInt w8) l9 0) ∷ ‵ (froom (tyInt w8) l10 0) ∷ ‵ (froom Sync-row′.mir l11 0) ∷ ‵ (froom out-ty l12 0) ∷ ‵ (froom out-ty l13 0) ∷ ‵ (froom (tyInt w8) l14 0) ∷ ‵ (froom Ruling-row′.mir l15 0) ∷ ‵ (froom (tyInt w64) l16 0) ∷ ‵ (froom Row′.mir l17 0) ∷ ‵ (froom out-ty l18 0) ∷ ‵ (froom tyBool l19 0) ∷ ‵ (froom Fault-row′.mir l20 0) ∷ ‵ (froom out-ty l21 0) ∷ ‵ (froom out-ty l22 0) ∷ ‵ (froom Answered-row′.mir l23 0) ∷ ‵ (froom T′.mir l24 0) ∷ ‵ (froom (tyInt w64) l25 0) ∷ ‵ (froom tyPtr l26 0) ∷ ‵ (froom tyPtr l27 0) ∷ ‵ (froom Row′.mir l28 0) ∷ ‵ (froom (tyRef erased mut rec-ty) l29 0) ∷ ‵ (froom T′.mir l30 0) ∷ ‵ (froom (tyRef erased mut rec-ty) l31 0) ∷ ‵ (froom T′.mir l32 0) ∷ ‵ (froom (tyRef erased mut rec-ty) l33 0) ∷ ‵ (froom T′.mir l34 0) ∷ ‵ (froom (tyInt w64) l35 0) ∷ ‵ (froom tyPtr l36 0) ∷ ‵ (froom tyPtr l37 0) ∷ ‵ (froom Row′.mir l38 0) ∷ ‵ (froom (tyRef erased mut (tyInt w8)) l39 0) ∷ ‵ (froom (sliceTy (tyRef erased mut (tyInt w8))) l40 0) ∷ ‵ (froom (tyRef erased mut rec-ty) l41 0) ∷ ‵ (froom (tyRef erased mut rec-ty) l42 0) ∷ ‵ (froom T′.mir l43 0) ∷ ‵ (froom (tyRef erased mut rec-ty) l44 0) ∷ ‵ (froom T′.mir l45 0) ∷ ‵ (froom (tyRef erased mut rec-ty) l46 0) ∷ Dies) (runs C Λ En code-timeout (anyQ (Next call)))
         on-timeout s z =
             fsplit3 ! $ drop ! $
             opens ! tt T.the-row {h = h} b o (λ vs. spelt ! T.the-row (Is T.the-row) (shows 𝓤 H A T.the-row) (LL.vals T.the-type T′.the-laws) (LL.tells T.the-type T′.the-laws) fullShare h vs b o $
@@ -821,7 +837,7 @@ module _ {M : Type 1} (𝓤 : URA M) (H : Heap 𝓤) (A : Atoms 𝓤) (W : Given
             keep ! (3 ∷ 4 ∷ 5 ∷ 6 ∷ 7 ∷ 8 ∷ 0 ∷ 9 ∷ 10 ∷ 11 ∷ 12 ∷ 13 ∷ 14 ∷ 15 ∷ 16 ∷ 17 ∷ 18 ∷ 19 ∷ 20 ∷ 21 ∷ 22 ∷ 23 ∷ 24 ∷ 25 ∷ 26 ∷ 27 ∷ 28 ∷ 29 ∷ 30 ∷ 31 ∷ 32 ∷ 33 ∷ 34 ∷ 35 ∷ 36 ∷ 37 ∷ 38 ∷ 39 ∷ 40 ∷ 41 ∷ 42 ∷ 43 ∷ 44 ∷ 45 ∷ 46 ∷ 47 ∷ 48 ∷ 49 ∷ 50 ∷ 51 ∷ 52 ∷ 53 ∷ 54 ∷ 55 ∷ 56 ∷ 57 ∷ 58 ∷ 59 ∷ 60 ∷ 61 ∷ 62 ∷ 63 ∷ 64 ∷ 65 ∷ 66 ∷ 67 ∷ 68 ∷ 69 ∷ 70 ∷ 71 ∷ 72 ∷ 73 ∷ 74 ∷ 75 ∷ 76 ∷ 77 ∷ 78 ∷ 79 ∷ 80 ∷ 81 ∷ 82 ∷ 83 ∷ 84 ∷ 85 ∷ 86 ∷ 87 ∷ 88 ∷ 89 ∷ 90 ∷ 91 ∷ 92 ∷ 93 ∷ 94 ∷ 95 ∷ 96 ∷ 97 ∷ 98 ∷ 99 ∷ 100 ∷ 101 ∷ 102 ∷ []) $ carried-timeout x (change-is x _ is) (ap (changed h) e ∙ timeout-changes h ∙ ap (λ (s : Step). doneOf (stepOf h s)) s) room z refl)))))))
 
       -- the switch: what is left computes to the arm that runs
-      matched : (call : Call) → Is Call-row.the-row call (EL.val Call-row.the-type Call-row′.the-laws call ∷ []) → Sq W (‵ Rec ∷ ‵ (flft κ q) ∷ ‵ Bytes ∷ ‵ (flft κ-f q-f) ∷ ‵ Room′ ∷ ‵ (flft κ-room q-room) ∷ ‵ (froom Answer-row′.mir l0 0) ∷ ‵ (fat fullShare (tyRef (named 0) mut rec-ty) l1 0 (vptr b o)) ∷ ‵ (fat fullShare Call-row′.mir l2 0 (EL.val Call-row.the-type Call-row′.the-laws call)) ∷ ‵ (fat fullShare (sliceTy (tyRef (named 1) imm (tyInt w8))) l3 0 s-f) ∷ ‵ (fat fullShare (sliceTy (tyRef (named 2) mut (tyInt w8))) l4 0 s-room) ∷ ‵ (froom (tyInt w8) l5 0) ∷ ‵ (froom Control-row′.mir l6 0) ∷ ‵ (froom (tyInt w64) l7 0) ∷ ‵ (froom Row′.mir l8 0) ∷ ‵ (froom (tyInt w8) l9 0) ∷ ‵ (froom (tyInt w8) l10 0) ∷ ‵ (froom Sync-row′.mir l11 0) ∷ ‵ (froom out-ty l12 0) ∷ ‵ (froom out-ty l13 0) ∷ ‵ (froom (tyInt w8) l14 0) ∷ ‵ (froom Ruling-row′.mir l15 0) ∷ ‵ (froom (tyInt w64) l16 0) ∷ ‵ (froom Row′.mir l17 0) ∷ ‵ (froom out-ty l18 0) ∷ ‵ (froom tyBool l19 0) ∷ ‵ (froom Fault-row′.mir l20 0) ∷ ‵ (froom out-ty l21 0) ∷ ‵ (froom out-ty l22 0) ∷ ‵ (froom Answer-row′.mir l23 0) ∷ ‵ (froom T′.mir l24 0) ∷ ‵ (froom (tyInt w64) l25 0) ∷ ‵ (froom tyPtr l26 0) ∷ ‵ (froom tyPtr l27 0) ∷ ‵ (froom Row′.mir l28 0) ∷ ‵ (froom (tyRef erased mut rec-ty) l29 0) ∷ ‵ (froom T′.mir l30 0) ∷ ‵ (froom (tyRef erased mut rec-ty) l31 0) ∷ ‵ (froom T′.mir l32 0) ∷ ‵ (froom (tyRef erased mut rec-ty) l33 0) ∷ ‵ (froom T′.mir l34 0) ∷ ‵ (froom (tyInt w64) l35 0) ∷ ‵ (froom tyPtr l36 0) ∷ ‵ (froom tyPtr l37 0) ∷ ‵ (froom Row′.mir l38 0) ∷ ‵ (froom (tyRef erased mut (tyInt w8)) l39 0) ∷ ‵ (froom (sliceTy (tyRef erased mut (tyInt w8))) l40 0) ∷ ‵ (froom (tyRef erased mut rec-ty) l41 0) ∷ ‵ (froom (tyRef erased mut rec-ty) l42 0) ∷ ‵ (froom T′.mir l43 0) ∷ ‵ (froom (tyRef erased mut rec-ty) l44 0) ∷ ‵ (froom T′.mir l45 0) ∷ ‵ (froom (tyRef erased mut rec-ty) l46 0) ∷ Dies) (runs C Λ En the-match (anyQ (Next call)))
+      matched : (call : Call) → Is Call-row.the-row call (EL.val Call-row.the-type Call-row′.the-laws call ∷ []) → Sq W (‵ Rec ∷ ‵ (flft κ q) ∷ ‵ Bytes ∷ ‵ (flft κ-f q-f) ∷ ‵ Room′ ∷ ‵ (flft κ-room q-room) ∷ ‵ (froom Answered-row′.mir l0 0) ∷ ‵ (fat fullShare (tyRef (named 0) mut rec-ty) l1 0 (vptr b o)) ∷ ‵ (fat fullShare Call-row′.mir l2 0 (EL.val Call-row.the-type Call-row′.the-laws call)) ∷ ‵ (fat fullShare (sliceTy (tyRef (named 1) imm (tyInt w8))) l3 0 s-f) ∷ ‵ (fat fullShare (sliceTy (tyRef (named 2) mut (tyInt w8))) l4 0 s-room) ∷ ‵ (froom (tyInt w8) l5 0) ∷ ‵ (froom Control-row′.mir l6 0) ∷ ‵ (froom (tyInt w64) l7 0) ∷ ‵ (froom Row′.mir l8 0) ∷ ‵ (froom (tyInt w8) l9 0) ∷ ‵ (froom (tyInt w8) l10 0) ∷ ‵ (froom Sync-row′.mir l11 0) ∷ ‵ (froom out-ty l12 0) ∷ ‵ (froom out-ty l13 0) ∷ ‵ (froom (tyInt w8) l14 0) ∷ ‵ (froom Ruling-row′.mir l15 0) ∷ ‵ (froom (tyInt w64) l16 0) ∷ ‵ (froom Row′.mir l17 0) ∷ ‵ (froom out-ty l18 0) ∷ ‵ (froom tyBool l19 0) ∷ ‵ (froom Fault-row′.mir l20 0) ∷ ‵ (froom out-ty l21 0) ∷ ‵ (froom out-ty l22 0) ∷ ‵ (froom Answered-row′.mir l23 0) ∷ ‵ (froom T′.mir l24 0) ∷ ‵ (froom (tyInt w64) l25 0) ∷ ‵ (froom tyPtr l26 0) ∷ ‵ (froom tyPtr l27 0) ∷ ‵ (froom Row′.mir l28 0) ∷ ‵ (froom (tyRef erased mut rec-ty) l29 0) ∷ ‵ (froom T′.mir l30 0) ∷ ‵ (froom (tyRef erased mut rec-ty) l31 0) ∷ ‵ (froom T′.mir l32 0) ∷ ‵ (froom (tyRef erased mut rec-ty) l33 0) ∷ ‵ (froom T′.mir l34 0) ∷ ‵ (froom (tyInt w64) l35 0) ∷ ‵ (froom tyPtr l36 0) ∷ ‵ (froom tyPtr l37 0) ∷ ‵ (froom Row′.mir l38 0) ∷ ‵ (froom (tyRef erased mut (tyInt w8)) l39 0) ∷ ‵ (froom (sliceTy (tyRef erased mut (tyInt w8))) l40 0) ∷ ‵ (froom (tyRef erased mut rec-ty) l41 0) ∷ ‵ (froom (tyRef erased mut rec-ty) l42 0) ∷ ‵ (froom T′.mir l43 0) ∷ ‵ (froom (tyRef erased mut rec-ty) l44 0) ∷ ‵ (froom T′.mir l45 0) ∷ ‵ (froom (tyRef erased mut rec-ty) l46 0) ∷ Dies) (runs C Λ En the-match (anyQ (Next call)))
       matched Reset i =
           switches-on ! (load ! (from ! (vrt ! refl (fld ! refl (stop !)))) (look-tag ! 8 (whole !))) $ exec ! C Λ En arm-reset (anyQ (Next Reset)) $
           on-reset Reset i refl refl
@@ -857,7 +873,7 @@ module _ {M : Type 1} (𝓤 : URA M) (H : Heap 𝓤) (A : Atoms 𝓤) (W : Given
           switches-on ! (load ! (from ! (vrt ! refl (fld ! refl (stop !)))) (look-tag ! 8 (whole !))) $ exec ! C Λ En arm-timeout (anyQ (Next Timeout)) $
           on-timeout Timeout i refl refl
 
-      started : (call : Call) → Is Call-row.the-row call (EL.val Call-row.the-type Call-row′.the-laws call ∷ []) → Sq W (‵ Rec ∷ ‵ (flft κ q) ∷ ‵ Bytes ∷ ‵ (flft κ-f q-f) ∷ ‵ Room′ ∷ ‵ (flft κ-room q-room) ∷ ‵ (froom Answer-row′.mir l0 0) ∷ ‵ (fat fullShare (tyRef (named 0) mut rec-ty) l1 0 (vptr b o)) ∷ ‵ (fat fullShare Call-row′.mir l2 0 (EL.val Call-row.the-type Call-row′.the-laws call)) ∷ ‵ (fat fullShare (sliceTy (tyRef (named 1) imm (tyInt w8))) l3 0 s-f) ∷ ‵ (fat fullShare (sliceTy (tyRef (named 2) mut (tyInt w8))) l4 0 s-room) ∷ ‵ (froom (tyInt w8) l5 0) ∷ ‵ (froom Control-row′.mir l6 0) ∷ ‵ (froom (tyInt w64) l7 0) ∷ ‵ (froom Row′.mir l8 0) ∷ ‵ (froom (tyInt w8) l9 0) ∷ ‵ (froom (tyInt w8) l10 0) ∷ ‵ (froom Sync-row′.mir l11 0) ∷ ‵ (froom out-ty l12 0) ∷ ‵ (froom out-ty l13 0) ∷ ‵ (froom (tyInt w8) l14 0) ∷ ‵ (froom Ruling-row′.mir l15 0) ∷ ‵ (froom (tyInt w64) l16 0) ∷ ‵ (froom Row′.mir l17 0) ∷ ‵ (froom out-ty l18 0) ∷ ‵ (froom tyBool l19 0) ∷ ‵ (froom Fault-row′.mir l20 0) ∷ ‵ (froom out-ty l21 0) ∷ ‵ (froom out-ty l22 0) ∷ ‵ (froom Answer-row′.mir l23 0) ∷ ‵ (froom T′.mir l24 0) ∷ ‵ (froom (tyInt w64) l25 0) ∷ ‵ (froom tyPtr l26 0) ∷ ‵ (froom tyPtr l27 0) ∷ ‵ (froom Row′.mir l28 0) ∷ ‵ (froom (tyRef erased mut rec-ty) l29 0) ∷ ‵ (froom T′.mir l30 0) ∷ ‵ (froom (tyRef erased mut rec-ty) l31 0) ∷ ‵ (froom T′.mir l32 0) ∷ ‵ (froom (tyRef erased mut rec-ty) l33 0) ∷ ‵ (froom T′.mir l34 0) ∷ ‵ (froom (tyInt w64) l35 0) ∷ ‵ (froom tyPtr l36 0) ∷ ‵ (froom tyPtr l37 0) ∷ ‵ (froom Row′.mir l38 0) ∷ ‵ (froom (tyRef erased mut (tyInt w8)) l39 0) ∷ ‵ (froom (sliceTy (tyRef erased mut (tyInt w8))) l40 0) ∷ ‵ (froom (tyRef erased mut rec-ty) l41 0) ∷ ‵ (froom (tyRef erased mut rec-ty) l42 0) ∷ ‵ (froom T′.mir l43 0) ∷ ‵ (froom (tyRef erased mut rec-ty) l44 0) ∷ ‵ (froom T′.mir l45 0) ∷ ‵ (froom (tyRef erased mut rec-ty) l46 0) ∷ Dies) (runs C Λ En pieces.t-1 (atRet En (Post call)))
+      started : (call : Call) → Is Call-row.the-row call (EL.val Call-row.the-type Call-row′.the-laws call ∷ []) → Sq W (‵ Rec ∷ ‵ (flft κ q) ∷ ‵ Bytes ∷ ‵ (flft κ-f q-f) ∷ ‵ Room′ ∷ ‵ (flft κ-room q-room) ∷ ‵ (froom Answered-row′.mir l0 0) ∷ ‵ (fat fullShare (tyRef (named 0) mut rec-ty) l1 0 (vptr b o)) ∷ ‵ (fat fullShare Call-row′.mir l2 0 (EL.val Call-row.the-type Call-row′.the-laws call)) ∷ ‵ (fat fullShare (sliceTy (tyRef (named 1) imm (tyInt w8))) l3 0 s-f) ∷ ‵ (fat fullShare (sliceTy (tyRef (named 2) mut (tyInt w8))) l4 0 s-room) ∷ ‵ (froom (tyInt w8) l5 0) ∷ ‵ (froom Control-row′.mir l6 0) ∷ ‵ (froom (tyInt w64) l7 0) ∷ ‵ (froom Row′.mir l8 0) ∷ ‵ (froom (tyInt w8) l9 0) ∷ ‵ (froom (tyInt w8) l10 0) ∷ ‵ (froom Sync-row′.mir l11 0) ∷ ‵ (froom out-ty l12 0) ∷ ‵ (froom out-ty l13 0) ∷ ‵ (froom (tyInt w8) l14 0) ∷ ‵ (froom Ruling-row′.mir l15 0) ∷ ‵ (froom (tyInt w64) l16 0) ∷ ‵ (froom Row′.mir l17 0) ∷ ‵ (froom out-ty l18 0) ∷ ‵ (froom tyBool l19 0) ∷ ‵ (froom Fault-row′.mir l20 0) ∷ ‵ (froom out-ty l21 0) ∷ ‵ (froom out-ty l22 0) ∷ ‵ (froom Answered-row′.mir l23 0) ∷ ‵ (froom T′.mir l24 0) ∷ ‵ (froom (tyInt w64) l25 0) ∷ ‵ (froom tyPtr l26 0) ∷ ‵ (froom tyPtr l27 0) ∷ ‵ (froom Row′.mir l28 0) ∷ ‵ (froom (tyRef erased mut rec-ty) l29 0) ∷ ‵ (froom T′.mir l30 0) ∷ ‵ (froom (tyRef erased mut rec-ty) l31 0) ∷ ‵ (froom T′.mir l32 0) ∷ ‵ (froom (tyRef erased mut rec-ty) l33 0) ∷ ‵ (froom T′.mir l34 0) ∷ ‵ (froom (tyInt w64) l35 0) ∷ ‵ (froom tyPtr l36 0) ∷ ‵ (froom tyPtr l37 0) ∷ ‵ (froom Row′.mir l38 0) ∷ ‵ (froom (tyRef erased mut (tyInt w8)) l39 0) ∷ ‵ (froom (sliceTy (tyRef erased mut (tyInt w8))) l40 0) ∷ ‵ (froom (tyRef erased mut rec-ty) l41 0) ∷ ‵ (froom (tyRef erased mut rec-ty) l42 0) ∷ ‵ (froom T′.mir l43 0) ∷ ‵ (froom (tyRef erased mut rec-ty) l44 0) ∷ ‵ (froom T′.mir l45 0) ∷ ‵ (froom (tyRef erased mut rec-ty) l46 0) ∷ Dies) (runs C Λ En pieces.t-1 (atRet En (Post call)))
       started call call-is = first ! $ matched call call-is
 
     walk : (call : Call) → Is Call-row.the-row call (EL.val Call-row.the-type Call-row′.the-laws call ∷ []) → ent 𝓤 (onEntry 𝓤 H A this.signature (κ, (κ-f, (κ-room, tt))) (q, (q-f, (q-room, tt))) (a call) (at call)) (WpFn 𝓤 H C Λ code.function (vptr b o ∷ EL.val Call-row.the-type Call-row′.the-laws call ∷ s-f ∷ s-room ∷ []) (Post call))
@@ -869,17 +885,17 @@ module _ {M : Type 1} (𝓤 : URA M) (H : Heap 𝓤) (A : Atoms 𝓤) (W : Given
         move ! (94 ∷ 95 ∷ 96 ∷ 97 ∷ 98 ∷ 99 ∷ 92 ∷ 90 ∷ 88 ∷ 86 ∷ 84 ∷ 82 ∷ 80 ∷ 78 ∷ 76 ∷ 74 ∷ 72 ∷ 70 ∷ 68 ∷ 66 ∷ 64 ∷ 62 ∷ 60 ∷ 58 ∷ 56 ∷ 54 ∷ 52 ∷ 50 ∷ 48 ∷ 46 ∷ 44 ∷ 42 ∷ 40 ∷ 38 ∷ 36 ∷ 34 ∷ 32 ∷ 30 ∷ 28 ∷ 26 ∷ 24 ∷ 22 ∷ 20 ∷ 18 ∷ 16 ∷ 14 ∷ 12 ∷ 10 ∷ 8 ∷ 6 ∷ 4 ∷ 2 ∷ 0 ∷ 93 ∷ 91 ∷ 89 ∷ 87 ∷ 85 ∷ 83 ∷ 81 ∷ 79 ∷ 77 ∷ 75 ∷ 73 ∷ 71 ∷ 69 ∷ 67 ∷ 65 ∷ 63 ∷ 61 ∷ 59 ∷ 57 ∷ 55 ∷ 53 ∷ 51 ∷ 49 ∷ 47 ∷ 45 ∷ 43 ∷ 41 ∷ 39 ∷ 37 ∷ 35 ∷ 33 ∷ 31 ∷ 29 ∷ 27 ∷ 25 ∷ 23 ∷ 21 ∷ 19 ∷ 17 ∷ 15 ∷ 13 ∷ 11 ∷ 9 ∷ 7 ∷ 5 ∷ 3 ∷ 1 ∷ []) $ started l0 l1 l2 l3 l4 l5 l6 l7 l8 l9 l10 l11 l12 l13 l14 l15 l16 l17 l18 l19 l20 l21 l22 l23 l24 l25 l26 l27 l28 l29 l30 l31 l32 l33 l34 l35 l36 l37 l38 l39 l40 l41 l42 l43 l44 l45 l46 call call-is)))))))))))))))))))))))))))))))))))))))))))))))
 
 module _ {M : Type 1} (𝓤 : URA M) (H : Heap 𝓤) (A : Atoms 𝓤) (W : Given 𝓤 H A) (at-mem : Memory → SProp 𝓤) (run : Routine → Fun 𝓤) where
-  walks : (C : Calls 𝓤 H) (Λ : Loops 𝓤 H) → FmC 𝓤 H (W .laws) C → Triple 𝓤 (C #resets) (Resets 𝓤 H A at-mem run) → Triple 𝓤 (C #reads) (Reads 𝓤 H A at-mem run) → Triple 𝓤 (C #writes) (Writes 𝓤 H A at-mem run) → Triple 𝓤 (C #syncs) (Syncs 𝓤 H A at-mem run) → Triple 𝓤 (C #syncdues) (Syncdues 𝓤 H A at-mem run) → Triple 𝓤 (C #slots) (Slots 𝓤 H A at-mem run) → Triple 𝓤 (C #frames) (Frames 𝓤 H A at-mem run) → Triple 𝓤 (C #faults) (Faults 𝓤 H A at-mem run) → Triple 𝓤 (C #timeouts) (Timeouts 𝓤 H A at-mem run) → Triple 𝓤 (C #rows) (Rows 𝓤 H A at-mem run) → Triple 𝓤 (C #windows) (Windows 𝓤 H A at-mem run) → Triple 𝓤 (C #filled) (Filled 𝓤 H A at-mem run) → Triple 𝓤 (C #carries) (Carries 𝓤 H A at-mem run) → Walks 𝓤 H A this.ended stayed (WpFn 𝓤 H C Λ code.function) (this.clauses 𝓤 H A at-mem run)
-  walks C Λ fm known-resets known-reads known-writes known-syncs known-syncdues known-slots known-frames known-faults known-timeouts known-rows known-windows known-filled known-carries = walked 𝓤 H A this.ended stayed (this.clauses 𝓤 H A at-mem run) (WpFn 𝓤 H C Λ code.function)
+  walks : (C : Calls 𝓤 H) (Λ : Loops 𝓤 H) → FmC 𝓤 H (W .laws) C → Triple 𝓤 (C #resets) (Resets 𝓤 H A at-mem run) → Triple 𝓤 (C #reads) (Reads 𝓤 H A at-mem run) → Triple 𝓤 (C #writes) (Writes 𝓤 H A at-mem run) → Triple 𝓤 (C #syncs) (Syncs 𝓤 H A at-mem run) → Triple 𝓤 (C #syncdues) (Syncdues 𝓤 H A at-mem run) → Triple 𝓤 (C #slots) (Slots 𝓤 H A at-mem run) → Triple 𝓤 (C #frames) (Frames 𝓤 H A at-mem run) → Triple 𝓤 (C #faults) (Faults 𝓤 H A at-mem run) → Triple 𝓤 (C #timeouts) (Timeouts 𝓤 H A at-mem run) → Triple 𝓤 (C #accepts) (Accepts 𝓤 H A at-mem run) → Triple 𝓤 (C #rows) (Rows 𝓤 H A at-mem run) → Triple 𝓤 (C #windows) (Windows 𝓤 H A at-mem run) → Triple 𝓤 (C #filled) (Filled 𝓤 H A at-mem run) → Triple 𝓤 (C #carries) (Carries 𝓤 H A at-mem run) → Walks 𝓤 H A this.ended stayed (WpFn 𝓤 H C Λ code.function) (this.clauses 𝓤 H A at-mem run)
+  walks C Λ fm known-resets known-reads known-writes known-syncs known-syncdues known-slots known-frames known-faults known-timeouts known-accepts known-rows known-windows known-filled known-carries = walked 𝓤 H A this.ended stayed (this.clauses 𝓤 H A at-mem run) (WpFn 𝓤 H C Λ code.function)
       (λ κs. (ptr-vals, (EL.vals Call-row.the-type Call-row′.the-laws, (slice-vals, (slice-vals, tt))))) (λ κs. (mut-tells (named 0) (κs .0) T.the-row, (EL.tells Call-row.the-type Call-row′.the-laws, (shr-slice-tells (named 1) (κs .1 .0) u8, (mut-slice-tells (named 2) (κs .1 .1 .0) u8, tt)))))
-      (λ κs qs bounds a g are. via 𝓤 _ (fst∗ 𝓤 _ (emp 𝓤)) (walk 𝓤 H A W at-mem run (κs .0) (κs .1 .0) (κs .1 .1 .0) (qs .0) (qs .1 .0) (qs .1 .1 .0) (a .0 .ptr .0) (a .0 .ptr .1) (a .0 .name) (a .0 .now) (a .1 .1 .0 .ptr .0) (a .1 .1 .0 .ptr .1) (a .1 .1 .0 .name) (a .1 .1 .0 .now) (a .1 .1 .1 .0 .ptr .0) (a .1 .1 .1 .0 .ptr .1) (a .1 .1 .1 .0 .name) (a .1 .1 .1 .0 .now) (are .1 .1 .0 .0 .1) (are .1 .1 .1 .0 .0 .1) C Λ fm known-resets known-reads known-writes known-syncs known-syncdues known-slots known-frames known-faults known-timeouts known-rows known-windows known-filled known-carries (a .1 .0) (are .1 .0)))
+      (λ κs qs bounds a g are. via 𝓤 _ (fst∗ 𝓤 _ (emp 𝓤)) (walk 𝓤 H A W at-mem run (κs .0) (κs .1 .0) (κs .1 .1 .0) (qs .0) (qs .1 .0) (qs .1 .1 .0) (a .0 .ptr .0) (a .0 .ptr .1) (a .0 .name) (a .0 .now) (a .1 .1 .0 .ptr .0) (a .1 .1 .0 .ptr .1) (a .1 .1 .0 .name) (a .1 .1 .0 .now) (a .1 .1 .1 .0 .ptr .0) (a .1 .1 .1 .0 .ptr .1) (a .1 .1 .1 .0 .name) (a .1 .1 .1 .0 .now) (are .1 .1 .0 .0 .1) (are .1 .1 .1 .0 .0 .1) C Λ fm known-resets known-reads known-writes known-syncs known-syncdues known-slots known-frames known-faults known-timeouts known-accepts known-rows known-windows known-filled known-carries (a .1 .0) (are .1 .0)))
 
   goes : AllGo 𝓤 H A W 3 (this.signature .params) (this.ended .kept) stayed
   goes = (goes-gave-ref 𝓤 H A W 3 0 tt (plain (λ _. T.the-row)), (goes-none 𝓤 H A W 3 (λ _. Call-row.the-row) yes (λ κs x f. refl), (goes-none-slice 𝓤 H A W 3 (1 ∷ []) tt (plain (λ _. u8)) yes, (goes-gave-slice 𝓤 H A W 3 2 tt (plain (λ _. u8)), tt))))
 
-meets : {M : Type 1} (𝓤 : URA M) (H : Heap 𝓤) (A : Atoms 𝓤) → Given 𝓤 H A → (at-mem : Memory → SProp 𝓤) (run : Routine → Fun 𝓤) (𝓣 : Tables 𝓤 H) → Triple 𝓤 (𝓣 .C #resets) (Resets 𝓤 H A at-mem run) → Triple 𝓤 (𝓣 .C #reads) (Reads 𝓤 H A at-mem run) → Triple 𝓤 (𝓣 .C #writes) (Writes 𝓤 H A at-mem run) → Triple 𝓤 (𝓣 .C #syncs) (Syncs 𝓤 H A at-mem run) → Triple 𝓤 (𝓣 .C #syncdues) (Syncdues 𝓤 H A at-mem run) → Triple 𝓤 (𝓣 .C #slots) (Slots 𝓤 H A at-mem run) → Triple 𝓤 (𝓣 .C #frames) (Frames 𝓤 H A at-mem run) → Triple 𝓤 (𝓣 .C #faults) (Faults 𝓤 H A at-mem run) → Triple 𝓤 (𝓣 .C #timeouts) (Timeouts 𝓤 H A at-mem run) → Triple 𝓤 (𝓣 .C #rows) (Rows 𝓤 H A at-mem run) → Triple 𝓤 (𝓣 .C #windows) (Windows 𝓤 H A at-mem run) → Triple 𝓤 (𝓣 .C #filled) (Filled 𝓤 H A at-mem run) → Triple 𝓤 (𝓣 .C #carries) (Carries 𝓤 H A at-mem run) → Meets 𝓤 H A this.signature (WpFn 𝓤 H (𝓣 .C) (𝓣 .Λ) code.function) (this.spec 𝓤 H A at-mem run)
-meets 𝓤 H A W at-mem run 𝓣 known-resets known-reads known-writes known-syncs known-syncdues known-slots known-frames known-faults known-timeouts known-rows known-windows known-filled known-carries = walk-meets 𝓤 H A this.ended stayed W (goes 𝓤 H A W at-mem run) (this.clauses 𝓤 H A at-mem run) (WpFn 𝓤 H (𝓣 .C) (𝓣 .Λ) code.function) (WpFn-mono 𝓤 H (W .laws) 𝓣 code.function)
-    (walks 𝓤 H A W at-mem run (𝓣 .C) (𝓣 .Λ) (fmOf 𝓤 H (W .laws) 𝓣) known-resets known-reads known-writes known-syncs known-syncdues known-slots known-frames known-faults known-timeouts known-rows known-windows known-filled known-carries)
+meets : {M : Type 1} (𝓤 : URA M) (H : Heap 𝓤) (A : Atoms 𝓤) → Given 𝓤 H A → (at-mem : Memory → SProp 𝓤) (run : Routine → Fun 𝓤) (𝓣 : Tables 𝓤 H) → Triple 𝓤 (𝓣 .C #resets) (Resets 𝓤 H A at-mem run) → Triple 𝓤 (𝓣 .C #reads) (Reads 𝓤 H A at-mem run) → Triple 𝓤 (𝓣 .C #writes) (Writes 𝓤 H A at-mem run) → Triple 𝓤 (𝓣 .C #syncs) (Syncs 𝓤 H A at-mem run) → Triple 𝓤 (𝓣 .C #syncdues) (Syncdues 𝓤 H A at-mem run) → Triple 𝓤 (𝓣 .C #slots) (Slots 𝓤 H A at-mem run) → Triple 𝓤 (𝓣 .C #frames) (Frames 𝓤 H A at-mem run) → Triple 𝓤 (𝓣 .C #faults) (Faults 𝓤 H A at-mem run) → Triple 𝓤 (𝓣 .C #timeouts) (Timeouts 𝓤 H A at-mem run) → Triple 𝓤 (𝓣 .C #accepts) (Accepts 𝓤 H A at-mem run) → Triple 𝓤 (𝓣 .C #rows) (Rows 𝓤 H A at-mem run) → Triple 𝓤 (𝓣 .C #windows) (Windows 𝓤 H A at-mem run) → Triple 𝓤 (𝓣 .C #filled) (Filled 𝓤 H A at-mem run) → Triple 𝓤 (𝓣 .C #carries) (Carries 𝓤 H A at-mem run) → Meets 𝓤 H A this.signature (WpFn 𝓤 H (𝓣 .C) (𝓣 .Λ) code.function) (this.spec 𝓤 H A at-mem run)
+meets 𝓤 H A W at-mem run 𝓣 known-resets known-reads known-writes known-syncs known-syncdues known-slots known-frames known-faults known-timeouts known-accepts known-rows known-windows known-filled known-carries = walk-meets 𝓤 H A this.ended stayed W (goes 𝓤 H A W at-mem run) (this.clauses 𝓤 H A at-mem run) (WpFn 𝓤 H (𝓣 .C) (𝓣 .Λ) code.function) (WpFn-mono 𝓤 H (W .laws) 𝓣 code.function)
+    (walks 𝓤 H A W at-mem run (𝓣 .C) (𝓣 .Λ) (fmOf 𝓤 H (W .laws) 𝓣) known-resets known-reads known-writes known-syncs known-syncdues known-slots known-frames known-faults known-timeouts known-accepts known-rows known-windows known-filled known-carries)
 
 pub step-spec : {M : Type 1} → stated.statement M
 unfolding code.routine tablesOf
@@ -896,6 +912,7 @@ step-spec 𝓤 H 𝓜 𝓖 𝓡 =
     (cited 𝓤 H (Frames 𝓤 H (𝓖 .A) (𝓜 .mem) (𝓡 .run)) 𝓜 𝓡 code.env #frames frames-def.routine code.calls-in-place·frame (frames-thm.met 𝓤 H 𝓜 𝓖 𝓡))
     (cited 𝓤 H (Faults 𝓤 H (𝓖 .A) (𝓜 .mem) (𝓡 .run)) 𝓜 𝓡 code.env #faults faults-def.routine code.calls-controller·events·fault (faults-thm.met 𝓤 H 𝓜 𝓖 𝓡))
     (cited 𝓤 H (Timeouts 𝓤 H (𝓖 .A) (𝓜 .mem) (𝓡 .run)) 𝓜 𝓡 code.env #timeouts timeouts-def.routine code.calls-controller·events·timeout (timeouts-thm.met 𝓤 H 𝓜 𝓖 𝓡))
+    (cited 𝓤 H (Accepts 𝓤 H (𝓖 .A) (𝓜 .mem) (𝓡 .run)) 𝓜 𝓡 code.env #accepts accepts-def.routine code.calls-controller·changes·accepted (accepts-thm.met 𝓤 H 𝓜 𝓖 𝓡))
     (cited 𝓤 H (Rows 𝓤 H (𝓖 .A) (𝓜 .mem) (𝓡 .run)) 𝓜 𝓡 code.env #rows rows-def.routine code.calls-controller·events·row-of (rows-thm.met 𝓤 H 𝓜 𝓖 𝓡))
     (cited 𝓤 H (Windows 𝓤 H (𝓖 .A) (𝓜 .mem) (𝓡 .run)) 𝓜 𝓡 code.env #windows windows-def.routine code.calls-controller·registers·window-row (windows-thm.met 𝓤 H 𝓜 𝓖 𝓡))
     (cited 𝓤 H (Filled 𝓤 H (𝓖 .A) (𝓜 .mem) (𝓡 .run)) 𝓜 𝓡 code.env #filled filled-def.routine code.calls-controller·events·slot-change (filled-thm.met 𝓤 H 𝓜 𝓖 𝓡))

@@ -51,7 +51,7 @@ use Rattle.rules.specs.Steps.{write as writeStep}
 use Rattle.rules.specs.Registers.{registerAt}
 use Rattle.controller.specs.declared.Done.{Done}
 use Rattle.controller.specs.Session.{stepOf}
-use Rattle.controller.specs.Calls.{doneOf}
+use Rattle.controller.specs.Calls.{doneOf, answerIn}
 use Rattle.controller.specs.Code.{changed}
 use Prim.Native.Nat.{_+_}
 use mir.Syntax.{tyPtr, op2, unsigned, mul, offset, int as intᴹ}
@@ -75,9 +75,9 @@ use Rattle.rules.proofs.Control.Laws as Control-row′
 use Rattle.contents.specs.declared.Contents.{Contents}
 use Rattle.contents.proofs.Contents as Row
 use Rattle.contents.proofs.Contents.Laws as Row′
-use Rattle.rules.specs.declared.Answer.{Answer}
-use Rattle.rules.proofs.Answer as Answer-row
-use Rattle.rules.proofs.Answer.Laws as Answer-row′
+use Rattle.controller.specs.declared.Answered.{Answered}
+use Rattle.controller.proofs.Answered as Answered-row
+use Rattle.controller.proofs.Answered.Laws as Answered-row′
 use Rattle.controller.proofs.registers.window_row as windows
 use Rattle.controller.proofs.registers.window_row.Symbol as windows-def
 use Rattle.controller.proofs.registers.window_row.Symbol.{name as #windows}
@@ -121,7 +121,7 @@ Carries 𝓤 H A mem run = tripleOf 𝓤 H A carries.signature (carries.spec �
 
 -- the type of `Change`, with its fields' types by name, so that a field's type is found with nothing computed
 abbrev out-ty : Ty
-out-ty = tyStruct (S.struct .name) (tcons Control-row′.mir (tcons (tyInt w8) (tcons (tyArray (tyInt w8) 14) (tcons Answer-row′.mir tnil))))
+out-ty = tyStruct (S.struct .name) (tcons Control-row′.mir (tcons (tyInt w8) (tcons (tyArray (tyInt w8) 14) (tcons Answered-row′.mir tnil))))
 
 abbrev rec-ty : Ty
 rec-ty = pointee (T.the-row .written)
@@ -137,8 +137,8 @@ same-is c vs g = LL.owes T.the-type T′.the-laws c (LL.owed T.the-type T′.the
 change-is : (x : Change) (vs : List Val) → Is S.the-row x vs → Is S.the-row x (LL.val S.the-type S′.the-laws x ∷ [])
 change-is x vs g = LL.owes S.the-type S′.the-laws x (LL.owed S.the-type S′.the-laws x vs g)
 
-answer-is : (x : Answer) (vs : List Val) → Is Answer-row.the-row x vs → Is Answer-row.the-row x (EL.val Answer-row.the-type Answer-row′.the-laws x ∷ [])
-answer-is x vs g = subst (Is Answer-row.the-row x) (EL.tells Answer-row.the-type Answer-row′.the-laws x vs g) g
+answer-is : (x : Answered) (vs : List Val) → Is Answered-row.the-row x vs → Is Answered-row.the-row x (LL.val Answered-row.the-type Answered-row′.the-laws x ∷ [])
+answer-is x vs g = subst (Is Answered-row.the-row x) (LL.tells Answered-row.the-type Answered-row′.the-laws x vs g) g
 
 -- the code of the two ways
 abbrev carrying : ℕ → ℕ → Bodyᴹ
@@ -175,19 +175,19 @@ module _ {M : Type 1} (𝓤 : URA M) (H : Heap 𝓤) (A : Atoms 𝓤) (W : Given
   abbrev Post : Val → SProp 𝓤
   Post = walkOf 𝓤 H A this.ended stayed (this.clauses 𝓤 H A at-mem run) .post (((κ, tt), (q, tt), tt, a, at), tt)
 
-  abbrev Says : Controller → Answer → Type 0
-  Says c m = (c ≡ doneOf (stepOf h (writeStep n u)) .next) × (m ≡ doneOf (stepOf h (writeStep n u)) .answer)
+  abbrev Says : Controller → Answered → Type 0
+  Says c m = (c ≡ doneOf (stepOf h (writeStep n u)) .next) × (m ≡ answerIn (doneOf (stepOf h (writeStep n u))))
 
   -- what is had at exit
   abbrev Had : Controller → List (Item 𝓤)
   Had c = ‵ (fres γ (T.the-row .coded .code c)) ∷ ‵ (flft κ q) ∷ []
 
-  exits : (c : Controller) (m : Answer) → Says c m → Is Answer-row.the-row m (EL.val Answer-row.the-type Answer-row′.the-laws m ∷ []) → ent 𝓤 (⋆ 𝓤 H A (Had c)) (Post (EL.val Answer-row.the-type Answer-row′.the-laws m))
+  exits : (c : Controller) (m : Answered) → Says c m → Is Answered-row.the-row m (LL.val Answered-row.the-type Answered-row′.the-laws m ∷ []) → ent 𝓤 (⋆ 𝓤 H A (Had c)) (Post (LL.val Answered-row.the-type Answered-row′.the-laws m))
   exits c m e g =
       qed W (Had c) ∵
-      suffices ! _ (ends-at 𝓤 H A this.ended stayed (this.clauses 𝓤 H A at-mem run) W (((κ, tt), (q, tt), tt, a, at), tt) (EL.val Answer-row.the-type Answer-row′.the-laws m) m (c, (tt, (tt, tt))) (tt, (tt, (tt, tt)))) $ says ! e $
+      suffices ! _ (ends-at 𝓤 H A this.ended stayed (this.clauses 𝓤 H A at-mem run) W (((κ, tt), (q, tt), tt, a, at), tt) (LL.val Answered-row.the-type Answered-row′.the-laws m) m (c, (tt, (tt, tt))) (tt, (tt, (tt, tt)))) $ says ! e $
       nothing ! $ move ! (2 ∷ 0 ∷ []) $ join ! $ frame ! $
-      nothing ! $ owned ! u8 (Is u8) (uint-makes 𝓤 H A W w8) u _ (refl, u-fits) $ fjoin ! $ owned ! u8 (Is u8) (uint-makes 𝓤 H A W w8) n _ (refl, n-fits) $ fjoin ! $ move ! (1 ∷ 0 ∷ []) $ fjoin ! $ frame ! $ owned ! Answer-row.the-row (Is Answer-row.the-row) (EL.makes Answer-row.the-type Answer-row′.the-plain 𝓤 H A) m _ g $ done !
+      nothing ! $ owned ! u8 (Is u8) (uint-makes 𝓤 H A W w8) u _ (refl, u-fits) $ fjoin ! $ owned ! u8 (Is u8) (uint-makes 𝓤 H A W w8) n _ (refl, n-fits) $ fjoin ! $ move ! (1 ∷ 0 ∷ []) $ fjoin ! $ frame ! $ owned ! Answered-row.the-row (Is Answered-row.the-row) (LL.makes Answered-row.the-type Answered-row′.the-plain 𝓤 H A) m _ g $ done !
 
   -- what the triples bind outside, and what they ask
   abbrev to-windows : (Windows 𝓤 H A at-mem run) .Ghost
@@ -230,39 +230,39 @@ module _ {M : Type 1} (𝓤 : URA M) (H : Heap 𝓤) (A : Atoms 𝓤) (W : Given
     module _ (l0 l1 l2 l3 l4 l5 l6 l7 l8 l9 l10 l11 l12 l13 l14 l15 l16 l17 l18 : ℕ) where
       -- the locals, and what frees them
       abbrev En : Env 𝓤 H
-      En = (Answer-row′.mir, l0) ∷ (tyRef (named 0) mut rec-ty, l1) ∷ (tyInt w8, l2) ∷ (tyInt w8, l3) ∷ (Control-row′.mir, l4) ∷ (tyInt w64, l5) ∷ (Row′.mir, l6) ∷ (out-ty, l7) ∷ (Control-row′.mir, l8) ∷ (out-ty, l9) ∷ (tyBool, l10) ∷ (Answer-row′.mir, l11) ∷ (tyInt w64, l12) ∷ (tyPtr, l13) ∷ (tyPtr, l14) ∷ (Row′.mir, l15) ∷ (tyRef erased mut rec-ty, l16) ∷ (tyInt w8, l17) ∷ (tyRef erased mut rec-ty, l18) ∷ []
+      En = (Answered-row′.mir, l0) ∷ (tyRef (named 0) mut rec-ty, l1) ∷ (tyInt w8, l2) ∷ (tyInt w8, l3) ∷ (Control-row′.mir, l4) ∷ (tyInt w64, l5) ∷ (Row′.mir, l6) ∷ (out-ty, l7) ∷ (Control-row′.mir, l8) ∷ (out-ty, l9) ∷ (tyBool, l10) ∷ (Answered-row′.mir, l11) ∷ (tyInt w64, l12) ∷ (tyPtr, l13) ∷ (tyPtr, l14) ∷ (Row′.mir, l15) ∷ (tyRef erased mut rec-ty, l16) ∷ (tyInt w8, l17) ∷ (tyRef erased mut rec-ty, l18) ∷ []
 
       abbrev Dies : List (Item 𝓤)
-      Dies = ‵ (fdies Answer-row′.mir l0) ∷ ‵ (fdies (tyRef (named 0) mut rec-ty) l1) ∷ ‵ (fdies (tyInt w8) l2) ∷ ‵ (fdies (tyInt w8) l3) ∷ ‵ (fdies Control-row′.mir l4) ∷ ‵ (fdies (tyInt w64) l5) ∷ ‵ (fdies Row′.mir l6) ∷ ‵ (fdies out-ty l7) ∷ ‵ (fdies Control-row′.mir l8) ∷ ‵ (fdies out-ty l9) ∷ ‵ (fdies tyBool l10) ∷ ‵ (fdies Answer-row′.mir l11) ∷ ‵ (fdies (tyInt w64) l12) ∷ ‵ (fdies tyPtr l13) ∷ ‵ (fdies tyPtr l14) ∷ ‵ (fdies Row′.mir l15) ∷ ‵ (fdies (tyRef erased mut rec-ty) l16) ∷ ‵ (fdies (tyInt w8) l17) ∷ ‵ (fdies (tyRef erased mut rec-ty) l18) ∷ []
+      Dies = ‵ (fdies Answered-row′.mir l0) ∷ ‵ (fdies (tyRef (named 0) mut rec-ty) l1) ∷ ‵ (fdies (tyInt w8) l2) ∷ ‵ (fdies (tyInt w8) l3) ∷ ‵ (fdies Control-row′.mir l4) ∷ ‵ (fdies (tyInt w64) l5) ∷ ‵ (fdies Row′.mir l6) ∷ ‵ (fdies out-ty l7) ∷ ‵ (fdies Control-row′.mir l8) ∷ ‵ (fdies out-ty l9) ∷ ‵ (fdies tyBool l10) ∷ ‵ (fdies Answered-row′.mir l11) ∷ ‵ (fdies (tyInt w64) l12) ∷ ‵ (fdies tyPtr l13) ∷ ‵ (fdies tyPtr l14) ∷ ‵ (fdies Row′.mir l15) ∷ ‵ (fdies (tyRef erased mut rec-ty) l16) ∷ ‵ (fdies (tyInt w8) l17) ∷ ‵ (fdies (tyRef erased mut rec-ty) l18) ∷ []
 
       -- what is left once a way has ended
       abbrev Next : Out → SProp 𝓤
       Next = afterSeq 𝓤 H (Wp 𝓤 H C Λ En pieces.t-3 (atReturn 𝓤 H En Post)) (atReturn 𝓤 H En Post)
 
       -- the `return`
-      answered : {y1 y2 y3 y10 : Val} (c : Controller) (m : Answer) → Says c m → Is Answer-row.the-row m (EL.val Answer-row.the-type Answer-row′.the-laws m ∷ []) → Sq W (‵ (fres γ (T.the-row .coded .code c)) ∷ ‵ (flft κ q) ∷ ‵ (froom Answer-row′.mir l0 0) ∷ ‵ (fat fullShare (tyRef (named 0) mut rec-ty) l1 0 y1) ∷ ‵ (fat fullShare (tyInt w8) l2 0 y2) ∷ ‵ (fat fullShare (tyInt w8) l3 0 y3) ∷ ‵ (froom Control-row′.mir l4 0) ∷ ‵ (froom (tyInt w64) l5 0) ∷ ‵ (froom Row′.mir l6 0) ∷ ‵ (froom out-ty l7 0) ∷ ‵ (froom Control-row′.mir l8 0) ∷ ‵ (froom out-ty l9 0) ∷ ‵ (fat fullShare tyBool l10 0 y10) ∷ ‵ (fat fullShare Answer-row′.mir l11 0 (EL.val Answer-row.the-type Answer-row′.the-laws m)) ∷ ‵ (froom (tyInt w64) l12 0) ∷ ‵ (froom tyPtr l13 0) ∷ ‵ (froom tyPtr l14 0) ∷ ‵ (froom Row′.mir l15 0) ∷ ‵ (froom (tyRef erased mut rec-ty) l16 0) ∷ ‵ (froom (tyInt w8) l17 0) ∷ ‵ (froom (tyRef erased mut rec-ty) l18 0) ∷ Dies) (runs C Λ En pieces.t-3 (atRet En Post))
+      answered : {y1 y2 y3 y10 : Val} (c : Controller) (m : Answered) → Says c m → Is Answered-row.the-row m (LL.val Answered-row.the-type Answered-row′.the-laws m ∷ []) → Sq W (‵ (fres γ (T.the-row .coded .code c)) ∷ ‵ (flft κ q) ∷ ‵ (froom Answered-row′.mir l0 0) ∷ ‵ (fat fullShare (tyRef (named 0) mut rec-ty) l1 0 y1) ∷ ‵ (fat fullShare (tyInt w8) l2 0 y2) ∷ ‵ (fat fullShare (tyInt w8) l3 0 y3) ∷ ‵ (froom Control-row′.mir l4 0) ∷ ‵ (froom (tyInt w64) l5 0) ∷ ‵ (froom Row′.mir l6 0) ∷ ‵ (froom out-ty l7 0) ∷ ‵ (froom Control-row′.mir l8 0) ∷ ‵ (froom out-ty l9 0) ∷ ‵ (fat fullShare tyBool l10 0 y10) ∷ ‵ (fat fullShare Answered-row′.mir l11 0 (LL.val Answered-row.the-type Answered-row′.the-laws m)) ∷ ‵ (froom (tyInt w64) l12 0) ∷ ‵ (froom tyPtr l13 0) ∷ ‵ (froom tyPtr l14 0) ∷ ‵ (froom Row′.mir l15 0) ∷ ‵ (froom (tyRef erased mut rec-ty) l16 0) ∷ ‵ (froom (tyInt w8) l17 0) ∷ ‵ (froom (tyRef erased mut rec-ty) l18 0) ∷ Dies) (runs C Λ En pieces.t-3 (atRet En Post))
       answered c m e g =
-          assigns ! (of-opd ! (load ! (from ! (stop !)) (look ! 13 refl))) (from ! (stop !)) (init ! 2 refl (EL.lawful Answer-row.the-type Answer-row′.the-laws 𝓤 H A W tt .typed m _ g .0)) $
+          assigns ! (of-opd ! (load ! (from ! (stop !)) (look ! 13 refl))) (from ! (stop !)) (init ! 2 refl (LL.lawful Answered-row.the-type Answered-row′.the-laws 𝓤 H A W .typed m _ g .0)) $
           returns ! (look ! 2 refl) $ forget ! 2 refl $ forget ! 3 refl $ forget ! 4 refl $ forget ! 5 refl $ forget ! 12 refl $ forget ! 13 refl $
           move ! (2 ∷ 21 ∷ []) $ free1 ! $ move ! (2 ∷ 20 ∷ []) $ free1 ! $ move ! (2 ∷ 19 ∷ []) $ free1 ! $ move ! (2 ∷ 18 ∷ []) $ free1 ! $ move ! (2 ∷ 17 ∷ []) $ free1 ! $ move ! (2 ∷ 16 ∷ []) $ free1 ! $ move ! (2 ∷ 15 ∷ []) $ free1 ! $ move ! (2 ∷ 14 ∷ []) $ free1 ! $ move ! (2 ∷ 13 ∷ []) $ free1 ! $ move ! (2 ∷ 12 ∷ []) $ free1 ! $ move ! (2 ∷ 11 ∷ []) $ free1 ! $ move ! (2 ∷ 10 ∷ []) $ free1 ! $ move ! (2 ∷ 9 ∷ []) $ free1 ! $ move ! (2 ∷ 8 ∷ []) $ free1 ! $ move ! (2 ∷ 7 ∷ []) $ free1 ! $ move ! (2 ∷ 6 ∷ []) $ free1 ! $ move ! (2 ∷ 5 ∷ []) $ free1 ! $ move ! (2 ∷ 4 ∷ []) $ free1 ! $ move ! (2 ∷ 3 ∷ []) $ free1 ! $ free0 ! $
           by ! (exits c m e g)
 
       -- the change is carried out, the record being lent again at its own lifetime
-      carried-low : {y10 y4 y5 y6 y12 y13 y14 y15 : Val} (x : Change) → Is S.the-row x (LL.val S.the-type S′.the-laws x ∷ []) → changed h x ≡ doneOf (stepOf h (writeStep n u)) → Sq W (‵ (fobs γ (T.the-row .coded .code h)) ∷ ‵ (fbor κ (Body (mem T.the-row) b o γ)) ∷ ‵ (flft κ q) ∷ ‵ (froom Answer-row′.mir l0 0) ∷ ‵ (fat fullShare (tyRef (named 0) mut rec-ty) l1 0 (vptr b o)) ∷ ‵ (fat fullShare (tyInt w8) l2 0 (vint w8 n)) ∷ ‵ (fat fullShare (tyInt w8) l3 0 (vint w8 u)) ∷ ‵ (fat fullShare Control-row′.mir l4 0 y4) ∷ ‵ (fat fullShare (tyInt w64) l5 0 y5) ∷ ‵ (fat fullShare Row′.mir l6 0 y6) ∷ ‵ (fat fullShare out-ty l7 0 (LL.val S.the-type S′.the-laws x)) ∷ ‵ (froom Control-row′.mir l8 0) ∷ ‵ (froom out-ty l9 0) ∷ ‵ (fat fullShare tyBool l10 0 y10) ∷ ‵ (froom Answer-row′.mir l11 0) ∷ ‵ (fat fullShare (tyInt w64) l12 0 y12) ∷ ‵ (fat fullShare tyPtr l13 0 y13) ∷ ‵ (fat fullShare tyPtr l14 0 y14) ∷ ‵ (fat fullShare Row′.mir l15 0 y15) ∷ ‵ (froom (tyRef erased mut rec-ty) l16 0) ∷ ‵ (froom (tyInt w8) l17 0) ∷ ‵ (froom (tyRef erased mut rec-ty) l18 0) ∷ Dies) (runs C Λ En (carrying 16 7) (anyQ Next))
+      carried-low : {y10 y4 y5 y6 y12 y13 y14 y15 : Val} (x : Change) → Is S.the-row x (LL.val S.the-type S′.the-laws x ∷ []) → changed h x ≡ doneOf (stepOf h (writeStep n u)) → Sq W (‵ (fobs γ (T.the-row .coded .code h)) ∷ ‵ (fbor κ (Body (mem T.the-row) b o γ)) ∷ ‵ (flft κ q) ∷ ‵ (froom Answered-row′.mir l0 0) ∷ ‵ (fat fullShare (tyRef (named 0) mut rec-ty) l1 0 (vptr b o)) ∷ ‵ (fat fullShare (tyInt w8) l2 0 (vint w8 n)) ∷ ‵ (fat fullShare (tyInt w8) l3 0 (vint w8 u)) ∷ ‵ (fat fullShare Control-row′.mir l4 0 y4) ∷ ‵ (fat fullShare (tyInt w64) l5 0 y5) ∷ ‵ (fat fullShare Row′.mir l6 0 y6) ∷ ‵ (fat fullShare out-ty l7 0 (LL.val S.the-type S′.the-laws x)) ∷ ‵ (froom Control-row′.mir l8 0) ∷ ‵ (froom out-ty l9 0) ∷ ‵ (fat fullShare tyBool l10 0 y10) ∷ ‵ (froom Answered-row′.mir l11 0) ∷ ‵ (fat fullShare (tyInt w64) l12 0 y12) ∷ ‵ (fat fullShare tyPtr l13 0 y13) ∷ ‵ (fat fullShare tyPtr l14 0 y14) ∷ ‵ (fat fullShare Row′.mir l15 0 y15) ∷ ‵ (froom (tyRef erased mut rec-ty) l16 0) ∷ ‵ (froom (tyInt w8) l17 0) ∷ ‵ (froom (tyRef erased mut rec-ty) l18 0) ∷ Dies) (runs C Λ En (carrying 16 7) (anyQ Next))
       carried-low x x-is e =
           assigns ! (addr ! (from ! (hop ! (look ! 4 refl) (stop !)))) (from ! (stop !)) (init ! 19 refl (tt, tt)) $
           group ! 3 $ use1 W (raw ((Carries 𝓤 H A at-mem run) .pre (to-carry x))) (asked-carry x x-is) $
           calls-at-last ! fm (Carries 𝓤 H A at-mem run) known-carries (to-carry x) (and-then ! (load ! (from ! (stop !)) (look ! 17 refl)) (and-then ! (load ! (from ! (stop !)) (look ! 8 refl)) (no-more !))) (λ v.
-          use1 W (later (some (λ (m : Answer). ((‵ (flft κ q) ⊛ ‵ ftrue) ⊛ ‵ (Answer-row.the-row .own m (v ∷ []))) ⊛ raw (ensured 𝓤 H A carries.ended (carries.clauses 𝓤 H A at-mem run) (κ, tt) (args-carry x) tt m)))) (id⊢ 𝓤 _) $ await ! tt $ pick ! (λ m.
-          split ! $ move ! (1 ∷ []) $ use1 W (some (λ (ws : Lasts carries.ended (κ, tt) (args-carry x)). ‵ (lasts carries.ended (κ, tt) (args-carry x) ws) ⊛ raw (fact 𝓤 ((ws .0 ≡ changed h x .next) × (m ≡ x .answer))))) (id⊢ 𝓤 _) $ pick ! (λ ws.
-          split ! $ move ! (1 ∷ []) $ heard ! ((ws .0 ≡ changed h x .next) × (m ≡ x .answer)) (λ d. fsplit ! $
-          move ! (2 ∷ []) $ split ! $ move ! (1 ∷ []) $ peeks ! Answer-row.the-row (Is Answer-row.the-row) (shows 𝓤 H A Answer-row.the-row) m (v ∷ []) (λ is. drop ! $ split ! $
-          land-last ! (from ! (stop !)) (init ! 15 refl (EL.lawful Answer-row.the-type Answer-row′.the-laws 𝓤 H A W tt .typed m _ is .0)) $ rewrite ! 15 (λ (u : Val). ‵ (fat fullShare Answer-row′.mir l11 0 u)) (ap only (EL.tells Answer-row.the-type Answer-row′.the-laws m _ is)) refl $
+          use1 W (later (some (λ (m : Answered). ((‵ (flft κ q) ⊛ ‵ ftrue) ⊛ ‵ (Answered-row.the-row .own m (v ∷ []))) ⊛ raw (ensured 𝓤 H A carries.ended (carries.clauses 𝓤 H A at-mem run) (κ, tt) (args-carry x) tt m)))) (id⊢ 𝓤 _) $ await ! tt $ pick ! (λ m.
+          split ! $ move ! (1 ∷ []) $ use1 W (some (λ (ws : Lasts carries.ended (κ, tt) (args-carry x)). ‵ (lasts carries.ended (κ, tt) (args-carry x) ws) ⊛ raw (fact 𝓤 ((ws .0 ≡ changed h x .next) × (m ≡ x .answered))))) (id⊢ 𝓤 _) $ pick ! (λ ws.
+          split ! $ move ! (1 ∷ []) $ heard ! ((ws .0 ≡ changed h x .next) × (m ≡ x .answered)) (λ d. fsplit ! $
+          move ! (2 ∷ []) $ split ! $ move ! (1 ∷ []) $ peeks ! Answered-row.the-row (Is Answered-row.the-row) (shows 𝓤 H A Answered-row.the-row) m (v ∷ []) (λ is. drop ! $ split ! $
+          land-last ! (from ! (stop !)) (init ! 15 refl (LL.lawful Answered-row.the-type Answered-row′.the-laws 𝓤 H A W .typed m _ is .0)) $ rewrite ! 15 (λ (u : Val). ‵ (fat fullShare Answered-row′.mir l11 0 u)) (ap only (LL.tells Answered-row.the-type Answered-row′.the-laws m _ is)) refl $
           exec ! C Λ En pieces.t-3 (atRet En Post) $ forget ! 8 refl $ forget ! 9 refl $ forget ! 10 refl $ forget ! 11 refl $ forget ! 16 refl $ forget ! 17 refl $ forget ! 18 refl $ forget ! 19 refl $ forget ! 20 refl $
-          keep ! (2 ∷ 0 ∷ 4 ∷ 5 ∷ 6 ∷ 7 ∷ 8 ∷ 9 ∷ 10 ∷ 11 ∷ 12 ∷ 13 ∷ 14 ∷ 15 ∷ 16 ∷ 17 ∷ 18 ∷ 19 ∷ 20 ∷ 21 ∷ 22 ∷ 23 ∷ 24 ∷ 25 ∷ 26 ∷ 27 ∷ 28 ∷ 29 ∷ 30 ∷ 31 ∷ 32 ∷ 33 ∷ 34 ∷ 35 ∷ 36 ∷ 37 ∷ 38 ∷ 39 ∷ 40 ∷ 41 ∷ []) $ answered (ws .0) m (d .0 ∙ ap (λ (u : Done). u .next) e, d .1 ∙ ap (λ (u : Done). u .answer) e) (answer-is m _ is))))))
+          keep ! (2 ∷ 0 ∷ 4 ∷ 5 ∷ 6 ∷ 7 ∷ 8 ∷ 9 ∷ 10 ∷ 11 ∷ 12 ∷ 13 ∷ 14 ∷ 15 ∷ 16 ∷ 17 ∷ 18 ∷ 19 ∷ 20 ∷ 21 ∷ 22 ∷ 23 ∷ 24 ∷ 25 ∷ 26 ∷ 27 ∷ 28 ∷ 29 ∷ 30 ∷ 31 ∷ 32 ∷ 33 ∷ 34 ∷ 35 ∷ 36 ∷ 37 ∷ 38 ∷ 39 ∷ 40 ∷ 41 ∷ []) $ answered (ws .0) m (d .0 ∙ ap (λ (u : Done). u .next) e, d .1 ∙ ap answerIn e) (answer-is m _ is))))))
 
       -- what is made of the row
-      making-low : {y10 y5 y12 y13 y14 y15 : Val} → Is Control-row.the-row (h .control) (LL.val Control-row.the-type Control-row′.the-laws (h .control) ∷ []) → (i : ℕ) → i ≡ windowRow (h .control) (registerAt n) → length (h .rows) ≡ 16 → Is Row.the-row (rowAt (h .rows) i) (LL.val Row.the-type Row′.the-laws (rowAt (h .rows) i) ∷ []) → Sq W (‵ (fobs γ (T.the-row .coded .code h)) ∷ ‵ (fbor κ (Body (mem T.the-row) b o γ)) ∷ ‵ (flft κ q) ∷ ‵ (froom Answer-row′.mir l0 0) ∷ ‵ (fat fullShare (tyRef (named 0) mut rec-ty) l1 0 (vptr b o)) ∷ ‵ (fat fullShare (tyInt w8) l2 0 (vint w8 n)) ∷ ‵ (fat fullShare (tyInt w8) l3 0 (vint w8 u)) ∷ ‵ (fat fullShare Control-row′.mir l4 0 (LL.val Control-row.the-type Control-row′.the-laws (h .control))) ∷ ‵ (fat fullShare (tyInt w64) l5 0 y5) ∷ ‵ (fat fullShare Row′.mir l6 0 (LL.val Row.the-type Row′.the-laws (rowAt (h .rows) i))) ∷ ‵ (froom out-ty l7 0) ∷ ‵ (froom Control-row′.mir l8 0) ∷ ‵ (froom out-ty l9 0) ∷ ‵ (fat fullShare tyBool l10 0 y10) ∷ ‵ (froom Answer-row′.mir l11 0) ∷ ‵ (fat fullShare (tyInt w64) l12 0 y12) ∷ ‵ (fat fullShare tyPtr l13 0 y13) ∷ ‵ (fat fullShare tyPtr l14 0 y14) ∷ ‵ (fat fullShare Row′.mir l15 0 y15) ∷ ‵ (froom (tyRef erased mut rec-ty) l16 0) ∷ ‵ (froom (tyInt w8) l17 0) ∷ ‵ (froom (tyRef erased mut rec-ty) l18 0) ∷ Dies) (runs C Λ En code-making-low (anyQ Next))
+      making-low : {y10 y5 y12 y13 y14 y15 : Val} → Is Control-row.the-row (h .control) (LL.val Control-row.the-type Control-row′.the-laws (h .control) ∷ []) → (i : ℕ) → i ≡ windowRow (h .control) (registerAt n) → length (h .rows) ≡ 16 → Is Row.the-row (rowAt (h .rows) i) (LL.val Row.the-type Row′.the-laws (rowAt (h .rows) i) ∷ []) → Sq W (‵ (fobs γ (T.the-row .coded .code h)) ∷ ‵ (fbor κ (Body (mem T.the-row) b o γ)) ∷ ‵ (flft κ q) ∷ ‵ (froom Answered-row′.mir l0 0) ∷ ‵ (fat fullShare (tyRef (named 0) mut rec-ty) l1 0 (vptr b o)) ∷ ‵ (fat fullShare (tyInt w8) l2 0 (vint w8 n)) ∷ ‵ (fat fullShare (tyInt w8) l3 0 (vint w8 u)) ∷ ‵ (fat fullShare Control-row′.mir l4 0 (LL.val Control-row.the-type Control-row′.the-laws (h .control))) ∷ ‵ (fat fullShare (tyInt w64) l5 0 y5) ∷ ‵ (fat fullShare Row′.mir l6 0 (LL.val Row.the-type Row′.the-laws (rowAt (h .rows) i))) ∷ ‵ (froom out-ty l7 0) ∷ ‵ (froom Control-row′.mir l8 0) ∷ ‵ (froom out-ty l9 0) ∷ ‵ (fat fullShare tyBool l10 0 y10) ∷ ‵ (froom Answered-row′.mir l11 0) ∷ ‵ (fat fullShare (tyInt w64) l12 0 y12) ∷ ‵ (fat fullShare tyPtr l13 0 y13) ∷ ‵ (fat fullShare tyPtr l14 0 y14) ∷ ‵ (fat fullShare Row′.mir l15 0 y15) ∷ ‵ (froom (tyRef erased mut rec-ty) l16 0) ∷ ‵ (froom (tyInt w8) l17 0) ∷ ‵ (froom (tyRef erased mut rec-ty) l18 0) ∷ Dies) (runs C Λ En code-making-low (anyQ Next))
       making-low d-is i p sixteen k-is =
           use0 W (raw ((Lows 𝓤 H A at-mem run) .pre (to-lows (rowAt (h .rows) i)))) (asked-lows (rowAt (h .rows) i) d-is k-is) $
           calls-at ! fm (Lows 𝓤 H A at-mem run) known-lows (to-lows (rowAt (h .rows) i)) (and-then ! (load ! (from ! (stop !)) (look ! 8 refl)) (and-then ! (load ! (from ! (stop !)) (look ! 6 refl)) (and-then ! (load ! (from ! (stop !)) (look ! 7 refl)) (and-then ! (load ! (from ! (stop !)) (look ! 10 refl)) (no-more !))))) (λ v.
@@ -274,7 +274,7 @@ module _ {M : Type 1} (𝓤 : URA M) (H : Heap 𝓤) (A : Atoms 𝓤) (W : Given
           carried-low x (change-is x _ is) (ap (changed h) g ∙ write-changes h sixteen n u _ (ap (rowAt (h .rows)) p)))))))
 
       -- the row is read
-      reading-low : {y10 : Val} → Is Control-row.the-row (h .control) (LL.val Control-row.the-type Control-row′.the-laws (h .control) ∷ []) → (i : ℕ) → i ≡ windowRow (h .control) (registerAt n) → Sq W (‵ (fobs γ (T.the-row .coded .code h)) ∷ ‵ (fbor κ (Body (mem T.the-row) b o γ)) ∷ ‵ (flft κ q) ∷ ‵ (froom Answer-row′.mir l0 0) ∷ ‵ (fat fullShare (tyRef (named 0) mut rec-ty) l1 0 (vptr b o)) ∷ ‵ (fat fullShare (tyInt w8) l2 0 (vint w8 n)) ∷ ‵ (fat fullShare (tyInt w8) l3 0 (vint w8 u)) ∷ ‵ (fat fullShare Control-row′.mir l4 0 (LL.val Control-row.the-type Control-row′.the-laws (h .control))) ∷ ‵ (fat fullShare (tyInt w64) l5 0 (vint w64 i)) ∷ ‵ (froom Row′.mir l6 0) ∷ ‵ (froom out-ty l7 0) ∷ ‵ (froom Control-row′.mir l8 0) ∷ ‵ (froom out-ty l9 0) ∷ ‵ (fat fullShare tyBool l10 0 y10) ∷ ‵ (froom Answer-row′.mir l11 0) ∷ ‵ (froom (tyInt w64) l12 0) ∷ ‵ (froom tyPtr l13 0) ∷ ‵ (froom tyPtr l14 0) ∷ ‵ (froom Row′.mir l15 0) ∷ ‵ (froom (tyRef erased mut rec-ty) l16 0) ∷ ‵ (froom (tyInt w8) l17 0) ∷ ‵ (froom (tyRef erased mut rec-ty) l18 0) ∷ Dies) (runs C Λ En code-reading-low (anyQ Next))
+      reading-low : {y10 : Val} → Is Control-row.the-row (h .control) (LL.val Control-row.the-type Control-row′.the-laws (h .control) ∷ []) → (i : ℕ) → i ≡ windowRow (h .control) (registerAt n) → Sq W (‵ (fobs γ (T.the-row .coded .code h)) ∷ ‵ (fbor κ (Body (mem T.the-row) b o γ)) ∷ ‵ (flft κ q) ∷ ‵ (froom Answered-row′.mir l0 0) ∷ ‵ (fat fullShare (tyRef (named 0) mut rec-ty) l1 0 (vptr b o)) ∷ ‵ (fat fullShare (tyInt w8) l2 0 (vint w8 n)) ∷ ‵ (fat fullShare (tyInt w8) l3 0 (vint w8 u)) ∷ ‵ (fat fullShare Control-row′.mir l4 0 (LL.val Control-row.the-type Control-row′.the-laws (h .control))) ∷ ‵ (fat fullShare (tyInt w64) l5 0 (vint w64 i)) ∷ ‵ (froom Row′.mir l6 0) ∷ ‵ (froom out-ty l7 0) ∷ ‵ (froom Control-row′.mir l8 0) ∷ ‵ (froom out-ty l9 0) ∷ ‵ (fat fullShare tyBool l10 0 y10) ∷ ‵ (froom Answered-row′.mir l11 0) ∷ ‵ (froom (tyInt w64) l12 0) ∷ ‵ (froom tyPtr l13 0) ∷ ‵ (froom tyPtr l14 0) ∷ ‵ (froom Row′.mir l15 0) ∷ ‵ (froom (tyRef erased mut rec-ty) l16 0) ∷ ‵ (froom (tyInt w8) l17 0) ∷ ‵ (froom (tyRef erased mut rec-ty) l18 0) ∷ Dies) (runs C Λ En code-reading-low (anyQ Next))
       reading-low d-is i p =
           opens ! tt T.the-row {h = h} b o (λ vs. spelt ! T.the-row (Is T.the-row) (shows 𝓤 H A T.the-row) (LL.vals T.the-type T′.the-laws) (LL.tells T.the-type T′.the-laws) fullShare h vs b o $
           move ! (1 ∷ []) $ peeks ! T.the-row (Is T.the-row) (shows 𝓤 H A T.the-row) h (mach h ∷ []) (λ was.
@@ -290,7 +290,7 @@ module _ {M : Type 1} (𝓤 : URA M) (H : Heap 𝓤) (A : Atoms 𝓤) (W : Given
           making-low d-is i p (sixteen-rows h was) (row-is h was i (window-below (h .control) (registerAt n) i p))))
 
       -- the index of its row
-      finding-low : {y10 : Val} → Is Control-row.the-row (h .control) (LL.val Control-row.the-type Control-row′.the-laws (h .control) ∷ []) → Sq W (‵ (fobs γ (T.the-row .coded .code h)) ∷ ‵ (fbor κ (Body (mem T.the-row) b o γ)) ∷ ‵ (flft κ q) ∷ ‵ (froom Answer-row′.mir l0 0) ∷ ‵ (fat fullShare (tyRef (named 0) mut rec-ty) l1 0 (vptr b o)) ∷ ‵ (fat fullShare (tyInt w8) l2 0 (vint w8 n)) ∷ ‵ (fat fullShare (tyInt w8) l3 0 (vint w8 u)) ∷ ‵ (fat fullShare Control-row′.mir l4 0 (LL.val Control-row.the-type Control-row′.the-laws (h .control))) ∷ ‵ (froom (tyInt w64) l5 0) ∷ ‵ (froom Row′.mir l6 0) ∷ ‵ (froom out-ty l7 0) ∷ ‵ (froom Control-row′.mir l8 0) ∷ ‵ (froom out-ty l9 0) ∷ ‵ (fat fullShare tyBool l10 0 y10) ∷ ‵ (froom Answer-row′.mir l11 0) ∷ ‵ (froom (tyInt w64) l12 0) ∷ ‵ (froom tyPtr l13 0) ∷ ‵ (froom tyPtr l14 0) ∷ ‵ (froom Row′.mir l15 0) ∷ ‵ (froom (tyRef erased mut rec-ty) l16 0) ∷ ‵ (froom (tyInt w8) l17 0) ∷ ‵ (froom (tyRef erased mut rec-ty) l18 0) ∷ Dies) (runs C Λ En code-finding-low (anyQ Next))
+      finding-low : {y10 : Val} → Is Control-row.the-row (h .control) (LL.val Control-row.the-type Control-row′.the-laws (h .control) ∷ []) → Sq W (‵ (fobs γ (T.the-row .coded .code h)) ∷ ‵ (fbor κ (Body (mem T.the-row) b o γ)) ∷ ‵ (flft κ q) ∷ ‵ (froom Answered-row′.mir l0 0) ∷ ‵ (fat fullShare (tyRef (named 0) mut rec-ty) l1 0 (vptr b o)) ∷ ‵ (fat fullShare (tyInt w8) l2 0 (vint w8 n)) ∷ ‵ (fat fullShare (tyInt w8) l3 0 (vint w8 u)) ∷ ‵ (fat fullShare Control-row′.mir l4 0 (LL.val Control-row.the-type Control-row′.the-laws (h .control))) ∷ ‵ (froom (tyInt w64) l5 0) ∷ ‵ (froom Row′.mir l6 0) ∷ ‵ (froom out-ty l7 0) ∷ ‵ (froom Control-row′.mir l8 0) ∷ ‵ (froom out-ty l9 0) ∷ ‵ (fat fullShare tyBool l10 0 y10) ∷ ‵ (froom Answered-row′.mir l11 0) ∷ ‵ (froom (tyInt w64) l12 0) ∷ ‵ (froom tyPtr l13 0) ∷ ‵ (froom tyPtr l14 0) ∷ ‵ (froom Row′.mir l15 0) ∷ ‵ (froom (tyRef erased mut rec-ty) l16 0) ∷ ‵ (froom (tyInt w8) l17 0) ∷ ‵ (froom (tyRef erased mut rec-ty) l18 0) ∷ Dies) (runs C Λ En code-finding-low (anyQ Next))
       finding-low d-is =
           use0 W (raw ((Windows 𝓤 H A at-mem run) .pre to-windows)) (asked-windows d-is) $
           calls-at ! fm (Windows 𝓤 H A at-mem run) known-windows to-windows (and-then ! (load ! (from ! (stop !)) (look ! 8 refl)) (and-then ! (load ! (from ! (stop !)) (look ! 6 refl)) (no-more !))) (λ v.
@@ -302,7 +302,7 @@ module _ {M : Type 1} (𝓤 : URA M) (H : Heap 𝓤) (A : Atoms 𝓤) (W : Given
           reading-low d-is i p)))))
 
       -- a register below $50
-      on-low : {y10 : Val} → Sq W (‵ Rec ∷ ‵ (flft κ q) ∷ ‵ (froom Answer-row′.mir l0 0) ∷ ‵ (fat fullShare (tyRef (named 0) mut rec-ty) l1 0 (vptr b o)) ∷ ‵ (fat fullShare (tyInt w8) l2 0 (vint w8 n)) ∷ ‵ (fat fullShare (tyInt w8) l3 0 (vint w8 u)) ∷ ‵ (froom Control-row′.mir l4 0) ∷ ‵ (froom (tyInt w64) l5 0) ∷ ‵ (froom Row′.mir l6 0) ∷ ‵ (froom out-ty l7 0) ∷ ‵ (froom Control-row′.mir l8 0) ∷ ‵ (froom out-ty l9 0) ∷ ‵ (fat fullShare tyBool l10 0 y10) ∷ ‵ (froom Answer-row′.mir l11 0) ∷ ‵ (froom (tyInt w64) l12 0) ∷ ‵ (froom tyPtr l13 0) ∷ ‵ (froom tyPtr l14 0) ∷ ‵ (froom Row′.mir l15 0) ∷ ‵ (froom (tyRef erased mut rec-ty) l16 0) ∷ ‵ (froom (tyInt w8) l17 0) ∷ ‵ (froom (tyRef erased mut rec-ty) l18 0) ∷ Dies) (runs C Λ En code-low (anyQ Next))
+      on-low : {y10 : Val} → Sq W (‵ Rec ∷ ‵ (flft κ q) ∷ ‵ (froom Answered-row′.mir l0 0) ∷ ‵ (fat fullShare (tyRef (named 0) mut rec-ty) l1 0 (vptr b o)) ∷ ‵ (fat fullShare (tyInt w8) l2 0 (vint w8 n)) ∷ ‵ (fat fullShare (tyInt w8) l3 0 (vint w8 u)) ∷ ‵ (froom Control-row′.mir l4 0) ∷ ‵ (froom (tyInt w64) l5 0) ∷ ‵ (froom Row′.mir l6 0) ∷ ‵ (froom out-ty l7 0) ∷ ‵ (froom Control-row′.mir l8 0) ∷ ‵ (froom out-ty l9 0) ∷ ‵ (fat fullShare tyBool l10 0 y10) ∷ ‵ (froom Answered-row′.mir l11 0) ∷ ‵ (froom (tyInt w64) l12 0) ∷ ‵ (froom tyPtr l13 0) ∷ ‵ (froom tyPtr l14 0) ∷ ‵ (froom Row′.mir l15 0) ∷ ‵ (froom (tyRef erased mut rec-ty) l16 0) ∷ ‵ (froom (tyInt w8) l17 0) ∷ ‵ (froom (tyRef erased mut rec-ty) l18 0) ∷ Dies) (runs C Λ En code-low (anyQ Next))
       on-low =
           fsplit3 ! $ drop ! $
           opens ! tt T.the-row {h = h} b o (λ vs. spelt ! T.the-row (Is T.the-row) (shows 𝓤 H A T.the-row) (LL.vals T.the-type T′.the-laws) (LL.tells T.the-type T′.the-laws) fullShare h vs b o $
@@ -314,21 +314,21 @@ module _ {M : Type 1} (𝓤 : URA M) (H : Heap 𝓤) (A : Atoms 𝓤) (W : Given
           finding-low (control-is h was)))
 
       -- the change is carried out, the record being lent again at its own lifetime
-      carried-control : {y10 y8 y17 : Val} (x : Change) → Is S.the-row x (LL.val S.the-type S′.the-laws x ∷ []) → changed h x ≡ doneOf (stepOf h (writeStep n u)) → Sq W (‵ (fobs γ (T.the-row .coded .code h)) ∷ ‵ (fbor κ (Body (mem T.the-row) b o γ)) ∷ ‵ (flft κ q) ∷ ‵ (froom Answer-row′.mir l0 0) ∷ ‵ (fat fullShare (tyRef (named 0) mut rec-ty) l1 0 (vptr b o)) ∷ ‵ (fat fullShare (tyInt w8) l2 0 (vint w8 n)) ∷ ‵ (fat fullShare (tyInt w8) l3 0 (vint w8 u)) ∷ ‵ (froom Control-row′.mir l4 0) ∷ ‵ (froom (tyInt w64) l5 0) ∷ ‵ (froom Row′.mir l6 0) ∷ ‵ (froom out-ty l7 0) ∷ ‵ (fat fullShare Control-row′.mir l8 0 y8) ∷ ‵ (fat fullShare out-ty l9 0 (LL.val S.the-type S′.the-laws x)) ∷ ‵ (fat fullShare tyBool l10 0 y10) ∷ ‵ (froom Answer-row′.mir l11 0) ∷ ‵ (froom (tyInt w64) l12 0) ∷ ‵ (froom tyPtr l13 0) ∷ ‵ (froom tyPtr l14 0) ∷ ‵ (froom Row′.mir l15 0) ∷ ‵ (froom (tyRef erased mut rec-ty) l16 0) ∷ ‵ (fat fullShare (tyInt w8) l17 0 y17) ∷ ‵ (froom (tyRef erased mut rec-ty) l18 0) ∷ Dies) (runs C Λ En (carrying 18 9) (anyQ Next))
+      carried-control : {y10 y8 y17 : Val} (x : Change) → Is S.the-row x (LL.val S.the-type S′.the-laws x ∷ []) → changed h x ≡ doneOf (stepOf h (writeStep n u)) → Sq W (‵ (fobs γ (T.the-row .coded .code h)) ∷ ‵ (fbor κ (Body (mem T.the-row) b o γ)) ∷ ‵ (flft κ q) ∷ ‵ (froom Answered-row′.mir l0 0) ∷ ‵ (fat fullShare (tyRef (named 0) mut rec-ty) l1 0 (vptr b o)) ∷ ‵ (fat fullShare (tyInt w8) l2 0 (vint w8 n)) ∷ ‵ (fat fullShare (tyInt w8) l3 0 (vint w8 u)) ∷ ‵ (froom Control-row′.mir l4 0) ∷ ‵ (froom (tyInt w64) l5 0) ∷ ‵ (froom Row′.mir l6 0) ∷ ‵ (froom out-ty l7 0) ∷ ‵ (fat fullShare Control-row′.mir l8 0 y8) ∷ ‵ (fat fullShare out-ty l9 0 (LL.val S.the-type S′.the-laws x)) ∷ ‵ (fat fullShare tyBool l10 0 y10) ∷ ‵ (froom Answered-row′.mir l11 0) ∷ ‵ (froom (tyInt w64) l12 0) ∷ ‵ (froom tyPtr l13 0) ∷ ‵ (froom tyPtr l14 0) ∷ ‵ (froom Row′.mir l15 0) ∷ ‵ (froom (tyRef erased mut rec-ty) l16 0) ∷ ‵ (fat fullShare (tyInt w8) l17 0 y17) ∷ ‵ (froom (tyRef erased mut rec-ty) l18 0) ∷ Dies) (runs C Λ En (carrying 18 9) (anyQ Next))
       carried-control x x-is e =
           assigns ! (addr ! (from ! (hop ! (look ! 4 refl) (stop !)))) (from ! (stop !)) (init ! 21 refl (tt, tt)) $
           group ! 3 $ use1 W (raw ((Carries 𝓤 H A at-mem run) .pre (to-carry x))) (asked-carry x x-is) $
           calls-at-last ! fm (Carries 𝓤 H A at-mem run) known-carries (to-carry x) (and-then ! (load ! (from ! (stop !)) (look ! 19 refl)) (and-then ! (load ! (from ! (stop !)) (look ! 10 refl)) (no-more !))) (λ v.
-          use1 W (later (some (λ (m : Answer). ((‵ (flft κ q) ⊛ ‵ ftrue) ⊛ ‵ (Answer-row.the-row .own m (v ∷ []))) ⊛ raw (ensured 𝓤 H A carries.ended (carries.clauses 𝓤 H A at-mem run) (κ, tt) (args-carry x) tt m)))) (id⊢ 𝓤 _) $ await ! tt $ pick ! (λ m.
-          split ! $ move ! (1 ∷ []) $ use1 W (some (λ (ws : Lasts carries.ended (κ, tt) (args-carry x)). ‵ (lasts carries.ended (κ, tt) (args-carry x) ws) ⊛ raw (fact 𝓤 ((ws .0 ≡ changed h x .next) × (m ≡ x .answer))))) (id⊢ 𝓤 _) $ pick ! (λ ws.
-          split ! $ move ! (1 ∷ []) $ heard ! ((ws .0 ≡ changed h x .next) × (m ≡ x .answer)) (λ d. fsplit ! $
-          move ! (2 ∷ []) $ split ! $ move ! (1 ∷ []) $ peeks ! Answer-row.the-row (Is Answer-row.the-row) (shows 𝓤 H A Answer-row.the-row) m (v ∷ []) (λ is. drop ! $ split ! $
-          land-last ! (from ! (stop !)) (init ! 15 refl (EL.lawful Answer-row.the-type Answer-row′.the-laws 𝓤 H A W tt .typed m _ is .0)) $ rewrite ! 15 (λ (u : Val). ‵ (fat fullShare Answer-row′.mir l11 0 u)) (ap only (EL.tells Answer-row.the-type Answer-row′.the-laws m _ is)) refl $
+          use1 W (later (some (λ (m : Answered). ((‵ (flft κ q) ⊛ ‵ ftrue) ⊛ ‵ (Answered-row.the-row .own m (v ∷ []))) ⊛ raw (ensured 𝓤 H A carries.ended (carries.clauses 𝓤 H A at-mem run) (κ, tt) (args-carry x) tt m)))) (id⊢ 𝓤 _) $ await ! tt $ pick ! (λ m.
+          split ! $ move ! (1 ∷ []) $ use1 W (some (λ (ws : Lasts carries.ended (κ, tt) (args-carry x)). ‵ (lasts carries.ended (κ, tt) (args-carry x) ws) ⊛ raw (fact 𝓤 ((ws .0 ≡ changed h x .next) × (m ≡ x .answered))))) (id⊢ 𝓤 _) $ pick ! (λ ws.
+          split ! $ move ! (1 ∷ []) $ heard ! ((ws .0 ≡ changed h x .next) × (m ≡ x .answered)) (λ d. fsplit ! $
+          move ! (2 ∷ []) $ split ! $ move ! (1 ∷ []) $ peeks ! Answered-row.the-row (Is Answered-row.the-row) (shows 𝓤 H A Answered-row.the-row) m (v ∷ []) (λ is. drop ! $ split ! $
+          land-last ! (from ! (stop !)) (init ! 15 refl (LL.lawful Answered-row.the-type Answered-row′.the-laws 𝓤 H A W .typed m _ is .0)) $ rewrite ! 15 (λ (u : Val). ‵ (fat fullShare Answered-row′.mir l11 0 u)) (ap only (LL.tells Answered-row.the-type Answered-row′.the-laws m _ is)) refl $
           exec ! C Λ En pieces.t-3 (atRet En Post) $ forget ! 12 refl $ forget ! 13 refl $ forget ! 21 refl $ forget ! 22 refl $
-          keep ! (2 ∷ 0 ∷ 4 ∷ 5 ∷ 6 ∷ 7 ∷ 8 ∷ 9 ∷ 10 ∷ 11 ∷ 12 ∷ 13 ∷ 14 ∷ 15 ∷ 16 ∷ 17 ∷ 18 ∷ 19 ∷ 20 ∷ 21 ∷ 22 ∷ 23 ∷ 24 ∷ 25 ∷ 26 ∷ 27 ∷ 28 ∷ 29 ∷ 30 ∷ 31 ∷ 32 ∷ 33 ∷ 34 ∷ 35 ∷ 36 ∷ 37 ∷ 38 ∷ 39 ∷ 40 ∷ 41 ∷ []) $ answered (ws .0) m (d .0 ∙ ap (λ (u : Done). u .next) e, d .1 ∙ ap (λ (u : Done). u .answer) e) (answer-is m _ is))))))
+          keep ! (2 ∷ 0 ∷ 4 ∷ 5 ∷ 6 ∷ 7 ∷ 8 ∷ 9 ∷ 10 ∷ 11 ∷ 12 ∷ 13 ∷ 14 ∷ 15 ∷ 16 ∷ 17 ∷ 18 ∷ 19 ∷ 20 ∷ 21 ∷ 22 ∷ 23 ∷ 24 ∷ 25 ∷ 26 ∷ 27 ∷ 28 ∷ 29 ∷ 30 ∷ 31 ∷ 32 ∷ 33 ∷ 34 ∷ 35 ∷ 36 ∷ 37 ∷ 38 ∷ 39 ∷ 40 ∷ 41 ∷ []) $ answered (ws .0) m (d .0 ∙ ap (λ (u : Done). u .next) e, d .1 ∙ ap answerIn e) (answer-is m _ is))))))
 
       -- a control register
-      on-control : {y10 : Val} → Holds (not (ltb n 0x50)) → Sq W (‵ Rec ∷ ‵ (flft κ q) ∷ ‵ (froom Answer-row′.mir l0 0) ∷ ‵ (fat fullShare (tyRef (named 0) mut rec-ty) l1 0 (vptr b o)) ∷ ‵ (fat fullShare (tyInt w8) l2 0 (vint w8 n)) ∷ ‵ (fat fullShare (tyInt w8) l3 0 (vint w8 u)) ∷ ‵ (froom Control-row′.mir l4 0) ∷ ‵ (froom (tyInt w64) l5 0) ∷ ‵ (froom Row′.mir l6 0) ∷ ‵ (froom out-ty l7 0) ∷ ‵ (froom Control-row′.mir l8 0) ∷ ‵ (froom out-ty l9 0) ∷ ‵ (fat fullShare tyBool l10 0 y10) ∷ ‵ (froom Answer-row′.mir l11 0) ∷ ‵ (froom (tyInt w64) l12 0) ∷ ‵ (froom tyPtr l13 0) ∷ ‵ (froom tyPtr l14 0) ∷ ‵ (froom Row′.mir l15 0) ∷ ‵ (froom (tyRef erased mut rec-ty) l16 0) ∷ ‵ (froom (tyInt w8) l17 0) ∷ ‵ (froom (tyRef erased mut rec-ty) l18 0) ∷ Dies) (runs C Λ En code-control (anyQ Next))
+      on-control : {y10 : Val} → Holds (not (ltb n 0x50)) → Sq W (‵ Rec ∷ ‵ (flft κ q) ∷ ‵ (froom Answered-row′.mir l0 0) ∷ ‵ (fat fullShare (tyRef (named 0) mut rec-ty) l1 0 (vptr b o)) ∷ ‵ (fat fullShare (tyInt w8) l2 0 (vint w8 n)) ∷ ‵ (fat fullShare (tyInt w8) l3 0 (vint w8 u)) ∷ ‵ (froom Control-row′.mir l4 0) ∷ ‵ (froom (tyInt w64) l5 0) ∷ ‵ (froom Row′.mir l6 0) ∷ ‵ (froom out-ty l7 0) ∷ ‵ (froom Control-row′.mir l8 0) ∷ ‵ (froom out-ty l9 0) ∷ ‵ (fat fullShare tyBool l10 0 y10) ∷ ‵ (froom Answered-row′.mir l11 0) ∷ ‵ (froom (tyInt w64) l12 0) ∷ ‵ (froom tyPtr l13 0) ∷ ‵ (froom tyPtr l14 0) ∷ ‵ (froom Row′.mir l15 0) ∷ ‵ (froom (tyRef erased mut rec-ty) l16 0) ∷ ‵ (froom (tyInt w8) l17 0) ∷ ‵ (froom (tyRef erased mut rec-ty) l18 0) ∷ Dies) (runs C Λ En code-control (anyQ Next))
       on-control t =
           fsplit3 ! $ drop ! $
           opens ! tt T.the-row {h = h} b o (λ vs. spelt ! T.the-row (Is T.the-row) (shows 𝓤 H A T.the-row) (LL.vals T.the-type T′.the-laws) (LL.tells T.the-type T′.the-laws) fullShare h vs b o $
@@ -348,7 +348,7 @@ module _ {M : Type 1} (𝓤 : URA M) (H : Heap 𝓤) (A : Atoms 𝓤) (W : Given
           carried-control x (change-is x _ is) (ap (changed h) g ∙ control-changes h (sixteen-rows h was) n u (nltb→le n 0x50 t)))))))))
 
       -- the address is tested
-      tested : Sq W (‵ Rec ∷ ‵ (flft κ q) ∷ ‵ (froom Answer-row′.mir l0 0) ∷ ‵ (fat fullShare (tyRef (named 0) mut rec-ty) l1 0 (vptr b o)) ∷ ‵ (fat fullShare (tyInt w8) l2 0 (vint w8 n)) ∷ ‵ (fat fullShare (tyInt w8) l3 0 (vint w8 u)) ∷ ‵ (froom Control-row′.mir l4 0) ∷ ‵ (froom (tyInt w64) l5 0) ∷ ‵ (froom Row′.mir l6 0) ∷ ‵ (froom out-ty l7 0) ∷ ‵ (froom Control-row′.mir l8 0) ∷ ‵ (froom out-ty l9 0) ∷ ‵ (froom tyBool l10 0) ∷ ‵ (froom Answer-row′.mir l11 0) ∷ ‵ (froom (tyInt w64) l12 0) ∷ ‵ (froom tyPtr l13 0) ∷ ‵ (froom tyPtr l14 0) ∷ ‵ (froom Row′.mir l15 0) ∷ ‵ (froom (tyRef erased mut rec-ty) l16 0) ∷ ‵ (froom (tyInt w8) l17 0) ∷ ‵ (froom (tyRef erased mut rec-ty) l18 0) ∷ Dies) (runs C Λ En pieces.t-1 (atRet En Post))
+      tested : Sq W (‵ Rec ∷ ‵ (flft κ q) ∷ ‵ (froom Answered-row′.mir l0 0) ∷ ‵ (fat fullShare (tyRef (named 0) mut rec-ty) l1 0 (vptr b o)) ∷ ‵ (fat fullShare (tyInt w8) l2 0 (vint w8 n)) ∷ ‵ (fat fullShare (tyInt w8) l3 0 (vint w8 u)) ∷ ‵ (froom Control-row′.mir l4 0) ∷ ‵ (froom (tyInt w64) l5 0) ∷ ‵ (froom Row′.mir l6 0) ∷ ‵ (froom out-ty l7 0) ∷ ‵ (froom Control-row′.mir l8 0) ∷ ‵ (froom out-ty l9 0) ∷ ‵ (froom tyBool l10 0) ∷ ‵ (froom Answered-row′.mir l11 0) ∷ ‵ (froom (tyInt w64) l12 0) ∷ ‵ (froom tyPtr l13 0) ∷ ‵ (froom tyPtr l14 0) ∷ ‵ (froom Row′.mir l15 0) ∷ ‵ (froom (tyRef erased mut rec-ty) l16 0) ∷ ‵ (froom (tyInt w8) l17 0) ∷ ‵ (froom (tyRef erased mut rec-ty) l18 0) ∷ Dies) (runs C Λ En pieces.t-1 (atRet En Post))
       tested =
           assigns ! (bin ! (load ! (from ! (stop !)) (look ! 4 refl)) (lit ! tt) tt) (from ! (stop !)) (init ! 12 refl (tt, tt)) $
           first ! $ branches ! (load ! (from ! (stop !)) (look ! 12 refl))

@@ -1,7 +1,7 @@
 use mathlib.Core.Path.{ap, _∙_}
 use borrow.Author.Needs.{needs}
 use Rattle.controller.specs.Carry.{rowAt}
-use Rattle.controller.specs.Code.{answered}
+use Rattle.controller.specs.Code.{staying}
 use Rattle.controller.specs.AccessLaws.{read-answers}
 use Rattle.controller.proofs.RegisterLaws.{sixteen-rows}
 use Rattle.controller.proofs.Controller.read.Statement.{statement}
@@ -23,7 +23,7 @@ returns : tie.Need-returns
 returns c =
     let start = c .before .before .before .before in
     let self = start .args .t1 in
-    ap (answered self) (c .read-answer .ensures) ∙ read-answers self (sixteen-rows self _ (start .good .0)) (start .args .a) _ (ap (rowAt (self .rows)) (c .before .before .window-row .ensures))
+    ap (staying self) (c .read-answer .ensures) ∙ read-answers self (sixteen-rows self _ (start .good .0)) (start .args .a) _ (ap (rowAt (self .rows)) (c .before .before .window-row .ensures))
 
 pub read-spec : {M : Type 1} → statement M
 read-spec =

@@ -1,6 +1,7 @@
 use mathlib.Core.Path.{ap, _∙_}
 use borrow.Author.Needs.{needs}
-use Rattle.controller.specs.Code.{saying, slotChange}
+use Rattle.rules.specs.declared.Answer.{Answer}
+use Rattle.controller.specs.Code.{unlooked, saying, slotChange}
 use Rattle.controller.proofs.events.slot_change.Statement.{statement}
 use Rattle.controller.proofs.events.slot_change.Tie as tie
 
@@ -18,7 +19,9 @@ same-length c = search needs
 
 returns : tie.Need-returns
 unfolding slotChange
-returns c = (c .with-answer .ensures ∙ ap (saying _) (c .before .slot-answer .ensures), λ d e. c .before .before .before .before .fill .ensures (d .rows) e)
+returns c =
+    let control = c .before .before .before .before .before .before .before .before .args .r .next in
+    (c .with-answer .ensures ∙ ap (λ (a : Answer). saying control (unlooked a)) (c .before .slot-answer .ensures), λ d e. c .before .before .before .before .fill .ensures (d .rows) e)
 
 pub slot-change-spec : {M : Type 1} → statement M
 slot-change-spec =

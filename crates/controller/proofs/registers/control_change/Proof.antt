@@ -7,7 +7,7 @@ use Rattle.masks.specs.PickLaws.{pick-true, pick-false}
 use Rattle.rules.specs.declared.Answer.the-variants.{Ok, Refused}
 use Rattle.rules.specs.declared.Control.{Control}
 use Rattle.rules.specs.Refusals.{writeRefusal}
-use Rattle.controller.specs.Code.{saying, controlChange}
+use Rattle.controller.specs.Code.{unlooked, saying, controlChange}
 use Rattle.controller.proofs.registers.control_change.Statement.{statement}
 use Rattle.controller.proofs.registers.control_change.Tie as tie
 
@@ -22,7 +22,7 @@ unfolding controlChange
 returns c =
     let a = c .before .before .before .args in
     let refusal = c .before .before .control-write-refusal .ensures in
-    c .with-answer .ensures ∙ ap (λ (k : ℕ). saying (a .c) (Refused k)) refusal
+    c .with-answer .ensures ∙ ap (λ (k : ℕ). saying (a .c) (unlooked (Refused k))) refusal
     ∙ sym (pick-false (eqb (writeRefusal (a .c) (0x50 + a .n) (a .v)) 0) _ _ (ne-eqb _ 0 (λ z. c .before .if1 .taken (refusal ∙ z))))
 
 written-control-requires : tie.Need-written-control-requires
@@ -35,7 +35,7 @@ returns-2 : tie.Need-returns-2
 unfolding controlChange
 returns-2 c =
     let a = c .before .before .before .before .args in
-    c .with-answer2 .ensures ∙ ap (λ (d : Control). saying d Ok) (c .before .written-control .ensures)
+    c .with-answer2 .ensures ∙ ap (λ (d : Control). saying d (unlooked Ok)) (c .before .written-control .ensures)
     ∙ sym (pick-true (eqb (writeRefusal (a .c) (0x50 + a .n) (a .v)) 0) _ _ (eq-eqb _ 0 (sym (c .before .before .before .control-write-refusal .ensures) ∙ c .before .before .if1 .left)))
 
 pub control-change-spec : {M : Type 1} → statement M

@@ -9,7 +9,7 @@ use Rattle.rules.specs.declared.Control.{Control}
 use Rattle.rules.specs.declared.Register.{Register}
 use Rattle.rules.specs.Refusals.{writeRefusal}
 use Rattle.writes.specs.Code.{writtenLow, low-written}
-use Rattle.controller.specs.Code.{saying, registerChange, writeChange}
+use Rattle.controller.specs.Code.{unlooked, saying, registerChange, writeChange}
 use Rattle.controller.proofs.RegisterLaws.{control-written}
 use Rattle.controller.proofs.registers.write_change.Statement.{statement}
 use Rattle.controller.proofs.registers.write_change.Tie as tie
@@ -34,7 +34,7 @@ unfolding writeChange
 returns-2 c =
     let a = c .before .before .before .before .args in
     let refusal = c .before .before .write-refusal .ensures in
-    c .with-answer .ensures ∙ ap (λ (k : ℕ). saying (a .c) (Refused k)) refusal
+    c .with-answer .ensures ∙ ap (λ (k : ℕ). saying (a .c) (unlooked (Refused k))) refusal
     ∙ sym (pick-false (eqb (writeRefusal (a .c) (a .a) (a .v)) 0) _ _ (ne-eqb _ 0 (λ z. c .before .if2 .taken (refusal ∙ z))))
 
 register-at-requires : tie.Need-register-at-requires

@@ -6,7 +6,7 @@ use borrow.Author.Tests.{lt-ltb, le-ltb}
 use borrow.Author.Needs.{needs}
 use Rattle.masks.specs.PickLaws.{pick-true, pick-false}
 use Rattle.rules.specs.declared.Answer.the-variants.{Ok}
-use Rattle.controller.specs.Code.{placing}
+use Rattle.controller.specs.Code.{unlooked, placing}
 use Rattle.controller.proofs.registers.write_window.Statement.{statement}
 use Rattle.controller.proofs.registers.write_window.Tie as tie
 
@@ -25,7 +25,7 @@ with-bytes-requires c κs = search needs
 returns-2 : tie.Need-returns-2
 returns-2 c =
     let a = c .before .before .before .before .args in
-    c .with-bytes .ensures ∙ ap (λ (b : List ℕ). placing (a .c) (a .n) b Ok) (c .before .write-place .ensures)
+    c .with-bytes .ensures ∙ ap (λ (b : List ℕ). placing (a .c) (a .n) b (unlooked Ok)) (c .before .write-place .ensures)
     ∙ sym (pick-true (ltb (a .n) 16) _ _ (lt-ltb (a .n) 16 (c .before .before .before .if1 .left)))
 
 pub write-window-spec : {M : Type 1} → statement M

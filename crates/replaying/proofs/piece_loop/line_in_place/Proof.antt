@@ -45,7 +45,7 @@ use denote.Triple.Table.{entered, cited}
 use denote.Triple.Walked.{says, Stays, stay-ref, stay-none, stay-none-slice, gave-slice, walkOf, AllGo, goes-none, goes-none-slice, goes-gave-slice, goes-ref, Walks, ends-at, walked, walk-meets}
 use denote.Exit.{yes}
 use Rattle.controller.specs.Session.{stepOf}
-use Rattle.controller.specs.Calls.{doneOf, stepFor, roomFor}
+use Rattle.controller.specs.Calls.{answeredOf, stepFor, roomFor}
 use Rattle.lines.specs.Grammar.{bytesIn}
 use Rattle.replaying.specs.CodeLoop.{linesAfter, soughtOf, Turned, Turns}
 use Rattle.replaying.specs.LoopLaws.{turns}
@@ -63,9 +63,9 @@ use Rattle.controller.proofs.Call.Laws as Call-row′
 use Rattle.lines.specs.declared.FrameBytes.{FrameBytes}
 use Rattle.lines.proofs.FrameBytes as Frame-row
 use Rattle.lines.proofs.FrameBytes.Laws as Frame-row′
-use Rattle.rules.specs.declared.Answer.{Answer}
-use Rattle.rules.proofs.Answer as Answer-row
-use Rattle.rules.proofs.Answer.Laws as Answer-row′
+use Rattle.controller.specs.declared.Answered.{Answered}
+use Rattle.controller.proofs.Answered as Answered-row
+use Rattle.controller.proofs.Answered.Laws as Answered-row′
 use Rattle.lines.specs.declared.Found.{Found}
 use Rattle.lines.proofs.Found as Found-row
 use Rattle.lines.proofs.Found.Laws as Found-row′
@@ -132,8 +132,8 @@ abbrev mach : Controller → Val
 mach = LL.val T.the-type T′.the-laws
 
 -- the machine value that a value is at is its own
-answer-is : (x : Answer) (vs : List Val) → Is Answer-row.the-row x vs → Is Answer-row.the-row x (EL.val Answer-row.the-type Answer-row′.the-laws x ∷ [])
-answer-is x vs g = subst (Is Answer-row.the-row x) (EL.tells Answer-row.the-type Answer-row′.the-laws x vs g) g
+answer-is : (x : Answered) (vs : List Val) → Is Answered-row.the-row x vs → Is Answered-row.the-row x (LL.val Answered-row.the-type Answered-row′.the-laws x ∷ [])
+answer-is x vs g = subst (Is Answered-row.the-row x) (LL.tells Answered-row.the-type Answered-row′.the-laws x vs g) g
 
 found-is : (f : Found) (vs : List Val) → Is Found-row.the-row f vs → Is Found-row.the-row f (LL.val Found-row.the-type Found-row′.the-laws f ∷ [])
 found-is f vs g = LL.owes Found-row.the-type Found-row′.the-laws f (LL.owed Found-row.the-type Found-row′.the-laws f vs g)
@@ -186,8 +186,8 @@ module _ {M : Type 1} (𝓤 : URA M) (H : Heap 𝓤) (A : Atoms 𝓤) (W : Given
   Out′ = MutSlice (named 3) κ-out u8 .own out-ref (s-out ∷ [])
 
   -- what `step` says, and what is to be said
-  abbrev Said : Found → Controller → Answer → List ℕ → Type 0
-  Said f c x zs = (c ≡ doneOf (stepOf h (stepFor (f .call) (bytesIn (f .frame)) room)) .next) × (x ≡ doneOf (stepOf h (stepFor (f .call) (bytesIn (f .frame)) room)) .answer) × (zs ≡ roomFor h (f .call) room)
+  abbrev Said : Found → Controller → Answered → List ℕ → Type 0
+  Said f c x zs = (c ≡ stepOf h (stepFor (f .call) (bytesIn (f .frame)) room) .next) × (x ≡ answeredOf (stepOf h (stepFor (f .call) (bytesIn (f .frame)) room))) × (zs ≡ roomFor h (f .call) room)
 
   abbrev Says : Controller → At → List ℕ → List ℕ → Type 0
   Says c r zs os = Turns h room piece out t r c zs os
@@ -241,43 +241,43 @@ module _ {M : Type 1} (𝓤 : URA M) (H : Heap 𝓤) (A : Atoms 𝓤) (W : Given
     asked = qed W Asked ∵ nothing ! $ move ! (2 ∷ 0 ∷ []) $ join ! $ move ! (1 ∷ 0 ∷ []) $ join ! $ nothing ! $ move ! (3 ∷ 0 ∷ []) $ fjoin ! $ owned ! Frame-row.the-row (Is Frame-row.the-row) (LL.makes Frame-row.the-type Frame-row′.the-plain 𝓤 H A) (f .frame) _ frame-is $ fjoin ! $ owned ! Call-row.the-row (Is Call-row.the-row) (EL.makes Call-row.the-type Call-row′.the-plain 𝓤 H A) (f .call) _ call-is $ fjoin ! $ move ! (2 ∷ 0 ∷ []) $ fjoin ! $ move ! (1 ∷ 0 ∷ []) $ join ! $ nothing ! $ move ! (1 ∷ 0 ∷ []) $ join ! $ done !
 
   -- the same of `lines_after`
-  abbrev args-lines : Controller → Answer → Controller × (Answer × (ℕ × Unit {0}))
+  abbrev args-lines : Controller → Answered → Controller × (Answered × (ℕ × Unit {0}))
   args-lines c x = (c, (x, (t .irq, tt)))
 
-  abbrev to-lines : Controller → Answer → Lines 𝓤 H A at-mem run .Ghost
-  to-lines c x = ((tt, tt, tt, args-lines c x, (mach c ∷ [], (EL.val Answer-row.the-type Answer-row′.the-laws x ∷ [], (vint w8 (t .irq) ∷ [], tt)))), tt)
+  abbrev to-lines : Controller → Answered → Lines 𝓤 H A at-mem run .Ghost
+  to-lines c x = ((tt, tt, tt, args-lines c x, (mach c ∷ [], (LL.val Answered-row.the-type Answered-row′.the-laws x ∷ [], (vint w8 (t .irq) ∷ [], tt)))), tt)
 
-  asked-lines : (c : Controller) → Is T.the-row c (mach c ∷ []) → (x : Answer) → Is Answer-row.the-row x (EL.val Answer-row.the-type Answer-row′.the-laws x ∷ []) → ent 𝓤 (emp 𝓤) (Lines 𝓤 H A at-mem run .pre (to-lines c x))
-  asked-lines c was x x-is = qed W [] ∵ nothing ! $ nothing ! $ owned ! u8 (Is u8) (uint-makes 𝓤 H A W w8) (t .irq) _ (refl, irq-is) $ fjoin ! $ owned ! Answer-row.the-row (Is Answer-row.the-row) (EL.makes Answer-row.the-type Answer-row′.the-plain 𝓤 H A) x _ x-is $ fjoin ! $ owned ! T.the-row (Is T.the-row) (LL.makes T.the-type T′.the-plain 𝓤 H A) c _ was $ fjoin ! $ move ! (1 ∷ 0 ∷ []) $ join ! $ nothing ! $ move ! (1 ∷ 0 ∷ []) $ join ! $ done !
+  asked-lines : (c : Controller) → Is T.the-row c (mach c ∷ []) → (x : Answered) → Is Answered-row.the-row x (LL.val Answered-row.the-type Answered-row′.the-laws x ∷ []) → ent 𝓤 (emp 𝓤) (Lines 𝓤 H A at-mem run .pre (to-lines c x))
+  asked-lines c was x x-is = qed W [] ∵ nothing ! $ nothing ! $ owned ! u8 (Is u8) (uint-makes 𝓤 H A W w8) (t .irq) _ (refl, irq-is) $ fjoin ! $ owned ! Answered-row.the-row (Is Answered-row.the-row) (LL.makes Answered-row.the-type Answered-row′.the-plain 𝓤 H A) x _ x-is $ fjoin ! $ owned ! T.the-row (Is T.the-row) (LL.makes T.the-type T′.the-plain 𝓤 H A) c _ was $ fjoin ! $ move ! (1 ∷ 0 ∷ []) $ join ! $ nothing ! $ move ! (1 ∷ 0 ∷ []) $ join ! $ done !
 
   -- the same of `turned`
-  abbrev args-turned : Found → Answer → List ℕ → ℕ → RefT (List ℕ) × (RefT (List ℕ) × (RefT (List ℕ) × (At × (Found × (Answer × (ℕ × Unit {0}))))))
+  abbrev args-turned : Found → Answered → List ℕ → ℕ → RefT (List ℕ) × (RefT (List ℕ) × (RefT (List ℕ) × (At × (Found × (Answered × (ℕ × Unit {0}))))))
   args-turned f x zs irq = (room-ref γ-room zs, (piece-ref, (out-ref, (t, (f, (x, (irq, tt)))))))
 
-  abbrev to-turned : Found → Answer → List ℕ → ℕ → Turn 𝓤 H A at-mem run .Ghost
-  to-turned f x zs irq = (((κ-room, (κ-piece, (κ-out, tt))), (q-room, (q-piece, (q-out, tt))), tt, args-turned f x zs irq, (s-room (length zs) ∷ [], (s-piece ∷ [], (s-out ∷ [], (LL.val U.the-type U′.the-laws t ∷ [], (LL.val Found-row.the-type Found-row′.the-laws f ∷ [], (EL.val Answer-row.the-type Answer-row′.the-laws x ∷ [], (vint w8 irq ∷ [], tt)))))))), tt)
+  abbrev to-turned : Found → Answered → List ℕ → ℕ → Turn 𝓤 H A at-mem run .Ghost
+  to-turned f x zs irq = (((κ-room, (κ-piece, (κ-out, tt))), (q-room, (q-piece, (q-out, tt))), tt, args-turned f x zs irq, (s-room (length zs) ∷ [], (s-piece ∷ [], (s-out ∷ [], (LL.val U.the-type U′.the-laws t ∷ [], (LL.val Found-row.the-type Found-row′.the-laws f ∷ [], (LL.val Answered-row.the-type Answered-row′.the-laws x ∷ [], (vint w8 irq ∷ [], tt)))))))), tt)
 
-  asked-turned : (f : Found) → Is Found-row.the-row f (LL.val Found-row.the-type Found-row′.the-laws f ∷ []) → (x : Answer) (zs : List ℕ) (irq : ℕ) → Is Answer-row.the-row x (EL.val Answer-row.the-type Answer-row′.the-laws x ∷ []) → irq < 2 ^ 8 → ent 𝓤 (⋆ 𝓤 H A (‵ (flft κ-room q-room) ∷ ‵ (flft κ-piece q-piece) ∷ ‵ (flft κ-out q-out) ∷ ‵ (Room′ κ-room γ-room zs ((length zs))) ∷ ‵ Piece ∷ ‵ Out′ ∷ [])) (Turn 𝓤 H A at-mem run .pre (to-turned f x zs irq))
-  asked-turned f f-is x zs irq x-is irq-fits = qed W (‵ (flft κ-room q-room) ∷ ‵ (flft κ-piece q-piece) ∷ ‵ (flft κ-out q-out) ∷ ‵ (Room′ κ-room γ-room zs ((length zs))) ∷ ‵ Piece ∷ ‵ Out′ ∷ []) ∵ nothing ! $ move ! (3 ∷ 0 ∷ []) $ join ! $ move ! (2 ∷ 0 ∷ []) $ join ! $ move ! (1 ∷ 0 ∷ []) $ join ! $ nothing ! $ owned ! u8 (Is u8) (uint-makes 𝓤 H A W w8) irq _ (refl, irq-fits) $ fjoin ! $ owned ! Answer-row.the-row (Is Answer-row.the-row) (EL.makes Answer-row.the-type Answer-row′.the-plain 𝓤 H A) x _ x-is $ fjoin ! $ owned ! Found-row.the-row (Is Found-row.the-row) (LL.makes Found-row.the-type Found-row′.the-plain 𝓤 H A) f _ f-is $ fjoin ! $ owned ! U.the-row (Is U.the-row) (LL.makes U.the-type U′.the-plain 𝓤 H A) t _ t-is $ fjoin ! $ move ! (4 ∷ 0 ∷ []) $ fjoin ! $ move ! (3 ∷ 0 ∷ []) $ fjoin ! $ move ! (2 ∷ 0 ∷ []) $ fjoin ! $ move ! (1 ∷ 0 ∷ []) $ join ! $ nothing ! $ move ! (1 ∷ 0 ∷ []) $ join ! $ done !
+  asked-turned : (f : Found) → Is Found-row.the-row f (LL.val Found-row.the-type Found-row′.the-laws f ∷ []) → (x : Answered) (zs : List ℕ) (irq : ℕ) → Is Answered-row.the-row x (LL.val Answered-row.the-type Answered-row′.the-laws x ∷ []) → irq < 2 ^ 8 → ent 𝓤 (⋆ 𝓤 H A (‵ (flft κ-room q-room) ∷ ‵ (flft κ-piece q-piece) ∷ ‵ (flft κ-out q-out) ∷ ‵ (Room′ κ-room γ-room zs ((length zs))) ∷ ‵ Piece ∷ ‵ Out′ ∷ [])) (Turn 𝓤 H A at-mem run .pre (to-turned f x zs irq))
+  asked-turned f f-is x zs irq x-is irq-fits = qed W (‵ (flft κ-room q-room) ∷ ‵ (flft κ-piece q-piece) ∷ ‵ (flft κ-out q-out) ∷ ‵ (Room′ κ-room γ-room zs ((length zs))) ∷ ‵ Piece ∷ ‵ Out′ ∷ []) ∵ nothing ! $ move ! (3 ∷ 0 ∷ []) $ join ! $ move ! (2 ∷ 0 ∷ []) $ join ! $ move ! (1 ∷ 0 ∷ []) $ join ! $ nothing ! $ owned ! u8 (Is u8) (uint-makes 𝓤 H A W w8) irq _ (refl, irq-fits) $ fjoin ! $ owned ! Answered-row.the-row (Is Answered-row.the-row) (LL.makes Answered-row.the-type Answered-row′.the-plain 𝓤 H A) x _ x-is $ fjoin ! $ owned ! Found-row.the-row (Is Found-row.the-row) (LL.makes Found-row.the-type Found-row′.the-plain 𝓤 H A) f _ f-is $ fjoin ! $ owned ! U.the-row (Is U.the-row) (LL.makes U.the-type U′.the-plain 𝓤 H A) t _ t-is $ fjoin ! $ move ! (4 ∷ 0 ∷ []) $ fjoin ! $ move ! (3 ∷ 0 ∷ []) $ fjoin ! $ move ! (2 ∷ 0 ∷ []) $ fjoin ! $ move ! (1 ∷ 0 ∷ []) $ join ! $ nothing ! $ move ! (1 ∷ 0 ∷ []) $ join ! $ done !
 
   module _ (C : Calls 𝓤 H) (Λ : Loops 𝓤 H) (fm : FmC 𝓤 H (W .laws) C) (known-seek : Triple 𝓤 (C #seek) (Seek 𝓤 H A at-mem run)) (known : Triple 𝓤 (C #step) (Step 𝓤 H A at-mem run)) (known-lines : Triple 𝓤 (C #lines) (Lines 𝓤 H A at-mem run)) (known-turned : Triple 𝓤 (C #turned) (Turn 𝓤 H A at-mem run)) where
     module _ (l0 l1 l2 l3 l4 l5 l6 l7 l8 l9 l10 l11 l12 l13 l14 l15 l16 : ℕ) where
       -- the locals
       abbrev En : Env 𝓤 H
-      En = (turn-ty, l0) ∷ (tyRef (named 0) mut rec-ty, l1) ∷ (sliceTy (tyRef (named 1) mut byte), l2) ∷ (sliceTy (tyRef (named 2) imm byte), l3) ∷ (sliceTy (tyRef (named 3) mut byte), l4) ∷ (turn-ty, l5) ∷ (found-ty, l6) ∷ (Answer-row′.mir, l7) ∷ (byte, l8) ∷ (tyRef erased mut rec-ty, l9) ∷ (tyRef erased mut byte, l10) ∷ (sliceTy (tyRef erased mut byte), l11) ∷ (T′.mir, l12) ∷ (tyRef erased mut byte, l13) ∷ (sliceTy (tyRef erased mut byte), l14) ∷ (tyRef erased mut byte, l15) ∷ (sliceTy (tyRef erased mut byte), l16) ∷ []
+      En = (turn-ty, l0) ∷ (tyRef (named 0) mut rec-ty, l1) ∷ (sliceTy (tyRef (named 1) mut byte), l2) ∷ (sliceTy (tyRef (named 2) imm byte), l3) ∷ (sliceTy (tyRef (named 3) mut byte), l4) ∷ (turn-ty, l5) ∷ (found-ty, l6) ∷ (Answered-row′.mir, l7) ∷ (byte, l8) ∷ (tyRef erased mut rec-ty, l9) ∷ (tyRef erased mut byte, l10) ∷ (sliceTy (tyRef erased mut byte), l11) ∷ (T′.mir, l12) ∷ (tyRef erased mut byte, l13) ∷ (sliceTy (tyRef erased mut byte), l14) ∷ (tyRef erased mut byte, l15) ∷ (sliceTy (tyRef erased mut byte), l16) ∷ []
 
       abbrev Dies : List (Item 𝓤)
-      Dies = ‵ (fdies turn-ty l0) ∷ ‵ (fdies (tyRef (named 0) mut rec-ty) l1) ∷ ‵ (fdies (sliceTy (tyRef (named 1) mut byte)) l2) ∷ ‵ (fdies (sliceTy (tyRef (named 2) imm byte)) l3) ∷ ‵ (fdies (sliceTy (tyRef (named 3) mut byte)) l4) ∷ ‵ (fdies turn-ty l5) ∷ ‵ (fdies found-ty l6) ∷ ‵ (fdies Answer-row′.mir l7) ∷ ‵ (fdies byte l8) ∷ ‵ (fdies (tyRef erased mut rec-ty) l9) ∷ ‵ (fdies (tyRef erased mut byte) l10) ∷ ‵ (fdies (sliceTy (tyRef erased mut byte)) l11) ∷ ‵ (fdies T′.mir l12) ∷ ‵ (fdies (tyRef erased mut byte) l13) ∷ ‵ (fdies (sliceTy (tyRef erased mut byte)) l14) ∷ ‵ (fdies (tyRef erased mut byte) l15) ∷ ‵ (fdies (sliceTy (tyRef erased mut byte)) l16) ∷ []
+      Dies = ‵ (fdies turn-ty l0) ∷ ‵ (fdies (tyRef (named 0) mut rec-ty) l1) ∷ ‵ (fdies (sliceTy (tyRef (named 1) mut byte)) l2) ∷ ‵ (fdies (sliceTy (tyRef (named 2) imm byte)) l3) ∷ ‵ (fdies (sliceTy (tyRef (named 3) mut byte)) l4) ∷ ‵ (fdies turn-ty l5) ∷ ‵ (fdies found-ty l6) ∷ ‵ (fdies Answered-row′.mir l7) ∷ ‵ (fdies byte l8) ∷ ‵ (fdies (tyRef erased mut rec-ty) l9) ∷ ‵ (fdies (tyRef erased mut byte) l10) ∷ ‵ (fdies (sliceTy (tyRef erased mut byte)) l11) ∷ ‵ (fdies T′.mir l12) ∷ ‵ (fdies (tyRef erased mut byte) l13) ∷ ‵ (fdies (sliceTy (tyRef erased mut byte)) l14) ∷ ‵ (fdies (tyRef erased mut byte) l15) ∷ ‵ (fdies (sliceTy (tyRef erased mut byte)) l16) ∷ []
 
       -- the `return`
-      left : {y1 y2 y3 y4 y5 y6 y7 y8 y9 y10 y11 y12 y13 y14 y15 y16 : Val} (c : Controller) (r : At) (zs os : List ℕ) → Says c r zs os → Is U.the-row r (LL.val U.the-type U′.the-laws r ∷ []) → length zs ≡ length room → length os ≡ length out → Sq W (‵ (fobs γ (T.the-row .coded .code c)) ∷ ‵ (fbor κ (Body (mem T.the-row) b o γ)) ∷ ‵ (flft κ q) ∷ (‵ (flft κ-room q-room) ⊛ ‵ (flft κ-piece q-piece) ⊛ ‵ (flft κ-out q-out) ⊛ ‵ ftrue) ∷ ‵ (finally u8 γ-room zs) ∷ ‵ (finally u8 γ-out os) ∷ ‵ Piece ∷ ‵ (fat fullShare turn-ty l0 0 (LL.val U.the-type U′.the-laws r)) ∷ ‵ (fat fullShare (tyRef (named 0) mut rec-ty) l1 0 y1) ∷ ‵ (fat fullShare (sliceTy (tyRef (named 1) mut byte)) l2 0 y2) ∷ ‵ (fat fullShare (sliceTy (tyRef (named 2) imm byte)) l3 0 y3) ∷ ‵ (fat fullShare (sliceTy (tyRef (named 3) mut byte)) l4 0 y4) ∷ ‵ (fat fullShare turn-ty l5 0 y5) ∷ ‵ (fat fullShare found-ty l6 0 y6) ∷ ‵ (fat fullShare Answer-row′.mir l7 0 y7) ∷ ‵ (fat fullShare byte l8 0 y8) ∷ ‵ (fat fullShare (tyRef erased mut rec-ty) l9 0 y9) ∷ ‵ (fat fullShare (tyRef erased mut byte) l10 0 y10) ∷ ‵ (fat fullShare (sliceTy (tyRef erased mut byte)) l11 0 y11) ∷ ‵ (fat fullShare T′.mir l12 0 y12) ∷ ‵ (fat fullShare (tyRef erased mut byte) l13 0 y13) ∷ ‵ (fat fullShare (sliceTy (tyRef erased mut byte)) l14 0 y14) ∷ ‵ (fat fullShare (tyRef erased mut byte) l15 0 y15) ∷ ‵ (fat fullShare (sliceTy (tyRef erased mut byte)) l16 0 y16) ∷ Dies) (runs C Λ En pieces.t-13 (atRet En Post))
+      left : {y1 y2 y3 y4 y5 y6 y7 y8 y9 y10 y11 y12 y13 y14 y15 y16 : Val} (c : Controller) (r : At) (zs os : List ℕ) → Says c r zs os → Is U.the-row r (LL.val U.the-type U′.the-laws r ∷ []) → length zs ≡ length room → length os ≡ length out → Sq W (‵ (fobs γ (T.the-row .coded .code c)) ∷ ‵ (fbor κ (Body (mem T.the-row) b o γ)) ∷ ‵ (flft κ q) ∷ (‵ (flft κ-room q-room) ⊛ ‵ (flft κ-piece q-piece) ⊛ ‵ (flft κ-out q-out) ⊛ ‵ ftrue) ∷ ‵ (finally u8 γ-room zs) ∷ ‵ (finally u8 γ-out os) ∷ ‵ Piece ∷ ‵ (fat fullShare turn-ty l0 0 (LL.val U.the-type U′.the-laws r)) ∷ ‵ (fat fullShare (tyRef (named 0) mut rec-ty) l1 0 y1) ∷ ‵ (fat fullShare (sliceTy (tyRef (named 1) mut byte)) l2 0 y2) ∷ ‵ (fat fullShare (sliceTy (tyRef (named 2) imm byte)) l3 0 y3) ∷ ‵ (fat fullShare (sliceTy (tyRef (named 3) mut byte)) l4 0 y4) ∷ ‵ (fat fullShare turn-ty l5 0 y5) ∷ ‵ (fat fullShare found-ty l6 0 y6) ∷ ‵ (fat fullShare Answered-row′.mir l7 0 y7) ∷ ‵ (fat fullShare byte l8 0 y8) ∷ ‵ (fat fullShare (tyRef erased mut rec-ty) l9 0 y9) ∷ ‵ (fat fullShare (tyRef erased mut byte) l10 0 y10) ∷ ‵ (fat fullShare (sliceTy (tyRef erased mut byte)) l11 0 y11) ∷ ‵ (fat fullShare T′.mir l12 0 y12) ∷ ‵ (fat fullShare (tyRef erased mut byte) l13 0 y13) ∷ ‵ (fat fullShare (sliceTy (tyRef erased mut byte)) l14 0 y14) ∷ ‵ (fat fullShare (tyRef erased mut byte) l15 0 y15) ∷ ‵ (fat fullShare (sliceTy (tyRef erased mut byte)) l16 0 y16) ∷ Dies) (runs C Λ En pieces.t-13 (atRet En Post))
       left c r zs os p g l l′ =
           returns ! (look ! 7 refl) $ forget ! 7 refl $ forget ! 8 refl $ forget ! 9 refl $ forget ! 10 refl $ forget ! 11 refl $ forget ! 12 refl $ forget ! 13 refl $ forget ! 14 refl $ forget ! 15 refl $ forget ! 16 refl $ forget ! 17 refl $ forget ! 18 refl $ forget ! 19 refl $ forget ! 20 refl $ forget ! 21 refl $ forget ! 22 refl $ forget ! 23 refl $
           move ! (7 ∷ 24 ∷ []) $ free1 ! $ move ! (7 ∷ 23 ∷ []) $ free1 ! $ move ! (7 ∷ 22 ∷ []) $ free1 ! $ move ! (7 ∷ 21 ∷ []) $ free1 ! $ move ! (7 ∷ 20 ∷ []) $ free1 ! $ move ! (7 ∷ 19 ∷ []) $ free1 ! $ move ! (7 ∷ 18 ∷ []) $ free1 ! $ move ! (7 ∷ 17 ∷ []) $ free1 ! $ move ! (7 ∷ 16 ∷ []) $ free1 ! $ move ! (7 ∷ 15 ∷ []) $ free1 ! $ move ! (7 ∷ 14 ∷ []) $ free1 ! $ move ! (7 ∷ 13 ∷ []) $ free1 ! $ move ! (7 ∷ 12 ∷ []) $ free1 ! $ move ! (7 ∷ 11 ∷ []) $ free1 ! $ move ! (7 ∷ 10 ∷ []) $ free1 ! $ move ! (7 ∷ 9 ∷ []) $ free1 ! $ move ! (7 ∷ 8 ∷ []) $ free1 ! $ free0 ! $
           by ! (exits c r zs os p g l l′)
 
       -- from there: the row
-      turning : {y9 y10 y11 y12 : Val} (f : Found) → f ≡ soughtOf piece t → Is Found-row.the-row f (LL.val Found-row.the-type Found-row′.the-laws f ∷ []) → (c : Controller) (x : Answer) (zs : List ℕ) (irq : ℕ) → Said f c x zs → irq ≡ linesAfter c x (t .irq) → length zs ≡ length room → Is Answer-row.the-row x (EL.val Answer-row.the-type Answer-row′.the-laws x ∷ []) → irq < 2 ^ 8 → Sq W (‵ (fobs γ (T.the-row .coded .code c)) ∷ ‵ (fbor κ (Body (mem T.the-row) b o γ)) ∷ ‵ (flft κ q) ∷ ‵ (Room′ κ-room γ-room zs ((length zs))) ∷ ‵ (flft κ-room q-room) ∷ ‵ Piece ∷ ‵ (flft κ-piece q-piece) ∷ ‵ Out′ ∷ ‵ (flft κ-out q-out) ∷ ‵ (froom turn-ty l0 0) ∷ ‵ (fat fullShare (tyRef (named 0) mut rec-ty) l1 0 (vptr b o)) ∷ ‵ (fat fullShare (sliceTy (tyRef (named 1) mut byte)) l2 0 (s-room (length zs))) ∷ ‵ (fat fullShare (sliceTy (tyRef (named 2) imm byte)) l3 0 s-piece) ∷ ‵ (fat fullShare (sliceTy (tyRef (named 3) mut byte)) l4 0 s-out) ∷ ‵ (fat fullShare turn-ty l5 0 (LL.val U.the-type U′.the-laws t)) ∷ ‵ (fat fullShare found-ty l6 0 (LL.val Found-row.the-type Found-row′.the-laws f)) ∷ ‵ (fat fullShare Answer-row′.mir l7 0 (EL.val Answer-row.the-type Answer-row′.the-laws x)) ∷ ‵ (fat fullShare byte l8 0 (vint w8 irq)) ∷ ‵ (fat fullShare (tyRef erased mut rec-ty) l9 0 y9) ∷ ‵ (fat fullShare (tyRef erased mut byte) l10 0 y10) ∷ ‵ (fat fullShare (sliceTy (tyRef erased mut byte)) l11 0 y11) ∷ ‵ (fat fullShare T′.mir l12 0 y12) ∷ ‵ (froom (tyRef erased mut byte) l13 0) ∷ ‵ (froom (sliceTy (tyRef erased mut byte)) l14 0) ∷ ‵ (froom (tyRef erased mut byte) l15 0) ∷ ‵ (froom (sliceTy (tyRef erased mut byte)) l16 0) ∷ Dies) (runs C Λ En pieces.t-8 (atRet En Post))
+      turning : {y9 y10 y11 y12 : Val} (f : Found) → f ≡ soughtOf piece t → Is Found-row.the-row f (LL.val Found-row.the-type Found-row′.the-laws f ∷ []) → (c : Controller) (x : Answered) (zs : List ℕ) (irq : ℕ) → Said f c x zs → irq ≡ linesAfter c (x .answer) (t .irq) → length zs ≡ length room → Is Answered-row.the-row x (LL.val Answered-row.the-type Answered-row′.the-laws x ∷ []) → irq < 2 ^ 8 → Sq W (‵ (fobs γ (T.the-row .coded .code c)) ∷ ‵ (fbor κ (Body (mem T.the-row) b o γ)) ∷ ‵ (flft κ q) ∷ ‵ (Room′ κ-room γ-room zs ((length zs))) ∷ ‵ (flft κ-room q-room) ∷ ‵ Piece ∷ ‵ (flft κ-piece q-piece) ∷ ‵ Out′ ∷ ‵ (flft κ-out q-out) ∷ ‵ (froom turn-ty l0 0) ∷ ‵ (fat fullShare (tyRef (named 0) mut rec-ty) l1 0 (vptr b o)) ∷ ‵ (fat fullShare (sliceTy (tyRef (named 1) mut byte)) l2 0 (s-room (length zs))) ∷ ‵ (fat fullShare (sliceTy (tyRef (named 2) imm byte)) l3 0 s-piece) ∷ ‵ (fat fullShare (sliceTy (tyRef (named 3) mut byte)) l4 0 s-out) ∷ ‵ (fat fullShare turn-ty l5 0 (LL.val U.the-type U′.the-laws t)) ∷ ‵ (fat fullShare found-ty l6 0 (LL.val Found-row.the-type Found-row′.the-laws f)) ∷ ‵ (fat fullShare Answered-row′.mir l7 0 (LL.val Answered-row.the-type Answered-row′.the-laws x)) ∷ ‵ (fat fullShare byte l8 0 (vint w8 irq)) ∷ ‵ (fat fullShare (tyRef erased mut rec-ty) l9 0 y9) ∷ ‵ (fat fullShare (tyRef erased mut byte) l10 0 y10) ∷ ‵ (fat fullShare (sliceTy (tyRef erased mut byte)) l11 0 y11) ∷ ‵ (fat fullShare T′.mir l12 0 y12) ∷ ‵ (froom (tyRef erased mut byte) l13 0) ∷ ‵ (froom (sliceTy (tyRef erased mut byte)) l14 0) ∷ ‵ (froom (tyRef erased mut byte) l15 0) ∷ ‵ (froom (sliceTy (tyRef erased mut byte)) l16 0) ∷ Dies) (runs C Λ En pieces.t-8 (atRet En Post))
       turning f s f-is c x zs irq e i l x-is irq-fits =
           assigns ! (addr ! (from ! (fld ! refl (hop ! (look-in ! 11 (sub ! 0 refl (whole !))) (stop !))))) (from ! (stop !)) (init ! 22 refl (tt, tt)) $
           assigns ! (agg ! (and-then ! (load ! (from ! (stop !)) (look ! 22 refl)) (and-then ! (load ! (from ! (fld ! refl (stop !))) (look-in ! 11 (sub ! 1 refl (whole !)))) (no-more !)))) (from ! (stop !)) (init ! 23 refl (tt, (tt, (record { fits = (now-room zs l) .0 }, tt)))) $
@@ -294,7 +294,7 @@ module _ {M : Type 1} (𝓤 : URA M) (H : Heap 𝓤) (A : Atoms 𝓤) (W : Given
           keep ! (5 ∷ 6 ∷ 7 ∷ 0 ∷ 3 ∷ 1 ∷ 4 ∷ 8 ∷ 9 ∷ 10 ∷ 11 ∷ 12 ∷ 13 ∷ 14 ∷ 15 ∷ 16 ∷ 17 ∷ 18 ∷ 19 ∷ 20 ∷ 21 ∷ 22 ∷ 23 ∷ 24 ∷ 25 ∷ 26 ∷ 27 ∷ 28 ∷ 29 ∷ 30 ∷ 31 ∷ 32 ∷ 33 ∷ 34 ∷ 35 ∷ 36 ∷ 37 ∷ 38 ∷ 39 ∷ 40 ∷ 41 ∷ []) $ left c r (ws .0) (ws .1 .1 .0) (turns s e i p) (turn-is r _ is) (l₁ ∙ l) l₂)))))))
 
       -- from the step's end: the five lines
-      lined : {y9 y10 y11 : Val} (f : Found) → f ≡ soughtOf piece t → Is Found-row.the-row f (LL.val Found-row.the-type Found-row′.the-laws f ∷ []) → (c : Controller) (x : Answer) (zs : List ℕ) → Said f c x zs → length zs ≡ length room → Is Answer-row.the-row x (EL.val Answer-row.the-type Answer-row′.the-laws x ∷ []) → Sq W (‵ (Rec κ γ c) ∷ ‵ (flft κ q) ∷ ‵ (Room′ κ-room γ-room zs ((length zs))) ∷ ‵ (flft κ-room q-room) ∷ ‵ Piece ∷ ‵ (flft κ-piece q-piece) ∷ ‵ Out′ ∷ ‵ (flft κ-out q-out) ∷ ‵ (froom turn-ty l0 0) ∷ ‵ (fat fullShare (tyRef (named 0) mut rec-ty) l1 0 (vptr b o)) ∷ ‵ (fat fullShare (sliceTy (tyRef (named 1) mut byte)) l2 0 (s-room (length zs))) ∷ ‵ (fat fullShare (sliceTy (tyRef (named 2) imm byte)) l3 0 s-piece) ∷ ‵ (fat fullShare (sliceTy (tyRef (named 3) mut byte)) l4 0 s-out) ∷ ‵ (fat fullShare turn-ty l5 0 (LL.val U.the-type U′.the-laws t)) ∷ ‵ (fat fullShare found-ty l6 0 (LL.val Found-row.the-type Found-row′.the-laws f)) ∷ ‵ (fat fullShare Answer-row′.mir l7 0 (EL.val Answer-row.the-type Answer-row′.the-laws x)) ∷ ‵ (froom byte l8 0) ∷ ‵ (fat fullShare (tyRef erased mut rec-ty) l9 0 y9) ∷ ‵ (fat fullShare (tyRef erased mut byte) l10 0 y10) ∷ ‵ (fat fullShare (sliceTy (tyRef erased mut byte)) l11 0 y11) ∷ ‵ (froom T′.mir l12 0) ∷ ‵ (froom (tyRef erased mut byte) l13 0) ∷ ‵ (froom (sliceTy (tyRef erased mut byte)) l14 0) ∷ ‵ (froom (tyRef erased mut byte) l15 0) ∷ ‵ (froom (sliceTy (tyRef erased mut byte)) l16 0) ∷ Dies) (runs C Λ En pieces.t-6 (atRet En Post))
+      lined : {y9 y10 y11 : Val} (f : Found) → f ≡ soughtOf piece t → Is Found-row.the-row f (LL.val Found-row.the-type Found-row′.the-laws f ∷ []) → (c : Controller) (x : Answered) (zs : List ℕ) → Said f c x zs → length zs ≡ length room → Is Answered-row.the-row x (LL.val Answered-row.the-type Answered-row′.the-laws x ∷ []) → Sq W (‵ (Rec κ γ c) ∷ ‵ (flft κ q) ∷ ‵ (Room′ κ-room γ-room zs ((length zs))) ∷ ‵ (flft κ-room q-room) ∷ ‵ Piece ∷ ‵ (flft κ-piece q-piece) ∷ ‵ Out′ ∷ ‵ (flft κ-out q-out) ∷ ‵ (froom turn-ty l0 0) ∷ ‵ (fat fullShare (tyRef (named 0) mut rec-ty) l1 0 (vptr b o)) ∷ ‵ (fat fullShare (sliceTy (tyRef (named 1) mut byte)) l2 0 (s-room (length zs))) ∷ ‵ (fat fullShare (sliceTy (tyRef (named 2) imm byte)) l3 0 s-piece) ∷ ‵ (fat fullShare (sliceTy (tyRef (named 3) mut byte)) l4 0 s-out) ∷ ‵ (fat fullShare turn-ty l5 0 (LL.val U.the-type U′.the-laws t)) ∷ ‵ (fat fullShare found-ty l6 0 (LL.val Found-row.the-type Found-row′.the-laws f)) ∷ ‵ (fat fullShare Answered-row′.mir l7 0 (LL.val Answered-row.the-type Answered-row′.the-laws x)) ∷ ‵ (froom byte l8 0) ∷ ‵ (fat fullShare (tyRef erased mut rec-ty) l9 0 y9) ∷ ‵ (fat fullShare (tyRef erased mut byte) l10 0 y10) ∷ ‵ (fat fullShare (sliceTy (tyRef erased mut byte)) l11 0 y11) ∷ ‵ (froom T′.mir l12 0) ∷ ‵ (froom (tyRef erased mut byte) l13 0) ∷ ‵ (froom (sliceTy (tyRef erased mut byte)) l14 0) ∷ ‵ (froom (tyRef erased mut byte) l15 0) ∷ ‵ (froom (sliceTy (tyRef erased mut byte)) l16 0) ∷ Dies) (runs C Λ En pieces.t-6 (atRet En Post))
       lined f s f-is c x zs e l x-is =
           fsplit3 ! $ drop ! $
           opens ! tt T.the-row {h = c} b o (λ vs. spelt ! T.the-row (Is T.the-row) (shows 𝓤 H A T.the-row) (LL.vals T.the-type T′.the-laws) (LL.tells T.the-type T′.the-laws) fullShare c vs b o $
@@ -304,13 +304,13 @@ module _ {M : Type 1} (𝓤 : URA M) (H : Heap 𝓤) (A : Atoms 𝓤) (W : Given
           use0 W (raw (Lines 𝓤 H A at-mem run .pre (to-lines c x))) (asked-lines c was x x-is) $
           calls-at ! fm (Lines 𝓤 H A at-mem run) known-lines (to-lines c x) (and-then ! (load ! (from ! (stop !)) (look ! 22 refl)) (and-then ! (load ! (from ! (stop !)) (look ! 17 refl)) (and-then ! (load ! (from ! (fld ! refl (stop !))) (look-in ! 15 (sub ! 5 refl (whole !)))) (no-more !)))) (λ v.
           use1 W (later (some (λ (irq : ℕ). (‵ ftrue ⊛ ‵ (u8 .own irq (v ∷ []))) ⊛ raw (ensured 𝓤 H A lines.ended (lines.clauses 𝓤 H A at-mem run) tt (args-lines c x) tt irq)))) (id⊢ 𝓤 _) $ await ! tt $ pick ! (λ irq.
-          split ! $ move ! (1 ∷ []) $ use1 W (some (λ (ws : Lasts lines.ended tt (args-lines c x)). ‵ (lasts lines.ended tt (args-lines c x) ws) ⊛ raw (fact 𝓤 (irq ≡ linesAfter c x (t .irq))))) (id⊢ 𝓤 _) $ pick ! (λ ws.
-          split ! $ move ! (1 ∷ []) $ heard ! (irq ≡ linesAfter c x (t .irq)) (λ i. drop ! $ split ! $ drop ! $ peeks ! u8 (Is u8) (shows 𝓤 H A u8) irq (v ∷ []) (λ is. drop ! $
+          split ! $ move ! (1 ∷ []) $ use1 W (some (λ (ws : Lasts lines.ended tt (args-lines c x)). ‵ (lasts lines.ended tt (args-lines c x) ws) ⊛ raw (fact 𝓤 (irq ≡ linesAfter c (x .answer) (t .irq))))) (id⊢ 𝓤 _) $ pick ! (λ ws.
+          split ! $ move ! (1 ∷ []) $ heard ! (irq ≡ linesAfter c (x .answer) (t .irq)) (λ i. drop ! $ split ! $ drop ! $ peeks ! u8 (Is u8) (shows 𝓤 H A u8) irq (v ∷ []) (λ is. drop ! $
           land ! (from ! (stop !)) (init ! 17 refl (uint-lawful 𝓤 H A W w8 .typed irq _ is .0)) $ rewrite ! 17 (λ (u : Val). ‵ (fat fullShare byte l8 0 u)) (ap only (is .0)) refl $
           turning f s f-is c x zs irq e i l x-is (is .1))))))))
 
       -- from there: the step
-      stepped : (f : Found) → f ≡ soughtOf piece t → Is Found-row.the-row f (LL.val Found-row.the-type Found-row′.the-laws f ∷ []) → Sq W (‵ (Rec κ γ h) ∷ ‵ (flft κ q) ∷ ‵ (Room′ κ-room γ-room room ((length room))) ∷ ‵ (flft κ-room q-room) ∷ ‵ Piece ∷ ‵ (flft κ-piece q-piece) ∷ ‵ Out′ ∷ ‵ (flft κ-out q-out) ∷ ‵ (froom turn-ty l0 0) ∷ ‵ (fat fullShare (tyRef (named 0) mut rec-ty) l1 0 (vptr b o)) ∷ ‵ (fat fullShare (sliceTy (tyRef (named 1) mut byte)) l2 0 (s-room (length room))) ∷ ‵ (fat fullShare (sliceTy (tyRef (named 2) imm byte)) l3 0 s-piece) ∷ ‵ (fat fullShare (sliceTy (tyRef (named 3) mut byte)) l4 0 s-out) ∷ ‵ (fat fullShare turn-ty l5 0 (LL.val U.the-type U′.the-laws t)) ∷ ‵ (fat fullShare found-ty l6 0 (LL.val Found-row.the-type Found-row′.the-laws f)) ∷ ‵ (froom Answer-row′.mir l7 0) ∷ ‵ (froom byte l8 0) ∷ ‵ (froom (tyRef erased mut rec-ty) l9 0) ∷ ‵ (froom (tyRef erased mut byte) l10 0) ∷ ‵ (froom (sliceTy (tyRef erased mut byte)) l11 0) ∷ ‵ (froom T′.mir l12 0) ∷ ‵ (froom (tyRef erased mut byte) l13 0) ∷ ‵ (froom (sliceTy (tyRef erased mut byte)) l14 0) ∷ ‵ (froom (tyRef erased mut byte) l15 0) ∷ ‵ (froom (sliceTy (tyRef erased mut byte)) l16 0) ∷ Dies) (runs C Λ En pieces.t-2 (atRet En Post))
+      stepped : (f : Found) → f ≡ soughtOf piece t → Is Found-row.the-row f (LL.val Found-row.the-type Found-row′.the-laws f ∷ []) → Sq W (‵ (Rec κ γ h) ∷ ‵ (flft κ q) ∷ ‵ (Room′ κ-room γ-room room ((length room))) ∷ ‵ (flft κ-room q-room) ∷ ‵ Piece ∷ ‵ (flft κ-piece q-piece) ∷ ‵ Out′ ∷ ‵ (flft κ-out q-out) ∷ ‵ (froom turn-ty l0 0) ∷ ‵ (fat fullShare (tyRef (named 0) mut rec-ty) l1 0 (vptr b o)) ∷ ‵ (fat fullShare (sliceTy (tyRef (named 1) mut byte)) l2 0 (s-room (length room))) ∷ ‵ (fat fullShare (sliceTy (tyRef (named 2) imm byte)) l3 0 s-piece) ∷ ‵ (fat fullShare (sliceTy (tyRef (named 3) mut byte)) l4 0 s-out) ∷ ‵ (fat fullShare turn-ty l5 0 (LL.val U.the-type U′.the-laws t)) ∷ ‵ (fat fullShare found-ty l6 0 (LL.val Found-row.the-type Found-row′.the-laws f)) ∷ ‵ (froom Answered-row′.mir l7 0) ∷ ‵ (froom byte l8 0) ∷ ‵ (froom (tyRef erased mut rec-ty) l9 0) ∷ ‵ (froom (tyRef erased mut byte) l10 0) ∷ ‵ (froom (sliceTy (tyRef erased mut byte)) l11 0) ∷ ‵ (froom T′.mir l12 0) ∷ ‵ (froom (tyRef erased mut byte) l13 0) ∷ ‵ (froom (sliceTy (tyRef erased mut byte)) l14 0) ∷ ‵ (froom (tyRef erased mut byte) l15 0) ∷ ‵ (froom (sliceTy (tyRef erased mut byte)) l16 0) ∷ Dies) (runs C Λ En pieces.t-2 (atRet En Post))
       stepped f s f-is =
           assigns ! (addr ! (from ! (hop ! (look ! 9 refl) (stop !)))) (from ! (stop !)) (init ! 17 refl (tt, tt)) $
           assigns ! (addr ! (from ! (fld ! refl (hop ! (look-in ! 10 (sub ! 0 refl (whole !))) (stop !))))) (from ! (stop !)) (init ! 18 refl (tt, tt)) $
@@ -320,18 +320,18 @@ module _ {M : Type 1} (𝓤 : URA M) (H : Heap 𝓤) (A : Atoms 𝓤) (W : Given
           lft-new ! tt (λ ν′. move ! (4 ∷ 5 ∷ []) $ use2 W (later (some (λ (δ′ : GName). ‵ (Room′ ((ν′ ∷ [])) δ′ room ((length room))) ⊛ ‵ (Sl.LentAgain u8 κ-room (ν′ ∷ []) q-room γ-room b-room o-room δ′ room)))) (Sl.lends-again u8 κ-room (ν′ ∷ []) q-room γ-room b-room o-room 𝓤 H A W (named 1) (named 1) room) $ await ! tt $ pick ! (λ δ′. split ! $
           move ! (5 ∷ 2 ∷ 3 ∷ 0 ∷ []) $ group ! 4 $ use1 W (raw (Step 𝓤 H A at-mem run .pre (to f f-is ν ν′ δ δ′))) (asked f f-is ν ν′ δ δ′) $
           calls-at ! fm (Step 𝓤 H A at-mem run) known (to f f-is ν ν′ δ δ′) (and-then ! (load ! (from ! (stop !)) (look ! 16 refl)) (and-then ! (load ! (from ! (fld ! refl (stop !))) (look-in ! 13 (sub ! 0 refl (whole !)))) (and-then ! (load ! (from ! (fld ! refl (stop !))) (look-in ! 13 (sub ! 1 refl (whole !)))) (and-then ! (load ! (from ! (stop !)) (look ! 18 refl)) (no-more !))))) (λ v.
-          use1 W (later (some (λ (x : Answer). ((‵ (flft (ν ∷ []) fullShare) ⊛ ‵ (flft (ν′ ∷ []) fullShare) ⊛ ‵ ftrue) ⊛ ‵ (Answer-row.the-row .own x (v ∷ []))) ⊛ raw (ensured 𝓤 H A step.ended (step.clauses 𝓤 H A at-mem run) (ν ∷ [], (ν′ ∷ [], tt)) (args f f-is ν ν′ δ δ′) tt x)))) (id⊢ 𝓤 _) $ await ! tt $ pick ! (λ x.
+          use1 W (later (some (λ (x : Answered). ((‵ (flft (ν ∷ []) fullShare) ⊛ ‵ (flft (ν′ ∷ []) fullShare) ⊛ ‵ ftrue) ⊛ ‵ (Answered-row.the-row .own x (v ∷ []))) ⊛ raw (ensured 𝓤 H A step.ended (step.clauses 𝓤 H A at-mem run) (ν ∷ [], (ν′ ∷ [], tt)) (args f f-is ν ν′ δ δ′) tt x)))) (id⊢ 𝓤 _) $ await ! tt $ pick ! (λ x.
           split ! $ move ! (1 ∷ []) $ use1 W (some (λ (ws : Lasts step.ended (ν ∷ [], (ν′ ∷ [], tt)) (args f f-is ν ν′ δ δ′)). ‵ (lasts step.ended (ν ∷ [], (ν′ ∷ [], tt)) (args f f-is ν ν′ δ δ′) ws) ⊛ raw (fact 𝓤 (Said f (ws .0) x (ws .1 .1 .1 .0))))) (id⊢ 𝓤 _) $ pick ! (λ ws.
           split ! $ move ! (1 ∷ []) $ heard ! (Said f (ws .0) x (ws .1 .1 .1 .0)) (λ e. fsplit ! $ move ! (1 ∷ []) $ fsplit ! $ drop ! $ fsplit ! $ drop ! $ fsplit ! $ fsplit ! $ move ! (1 ∷ []) $ feqL ! (λ l.
-          move ! (3 ∷ []) $ split ! $ move ! (1 ∷ []) $ peeks ! Answer-row.the-row (Is Answer-row.the-row) (shows 𝓤 H A Answer-row.the-row) x (v ∷ []) (λ is. drop ! $ split ! $ move ! (1 ∷ []) $ split ! $
+          move ! (3 ∷ []) $ split ! $ move ! (1 ∷ []) $ peeks ! Answered-row.the-row (Is Answered-row.the-row) (shows 𝓤 H A Answered-row.the-row) x (v ∷ []) (λ is. drop ! $ split ! $ move ! (1 ∷ []) $ split ! $
           lft-end ! tt $ move ! (0 ∷ 6 ∷ 3 ∷ []) $ use3 W (later (‵ (Room′ κ-room γ-room (ws .1 .1 .1 .0) ((length room))) ⊛ ‵ (flft κ-room q-room))) (Sl.comes-back u8 κ-room (ν′ ∷ []) q-room γ-room b-room o-room 𝓤 H A W (named 1) (named 1) room δ′ (ws .1 .1 .1 .0) room-room l) $ await ! tt $ split ! $
           move ! (3 ∷ []) $ lft-end ! tt $ move ! (0 ∷ 6 ∷ 5 ∷ []) $ use3 W (later (‵ (Rec κ γ (ws .0)) ⊛ ‵ (flft κ q))) (comes-back 𝓤 H A W T.the-row (named 0) κ (ν ∷ []) q γ b o δ h (ws .0)) $ await ! tt $ split ! $
-          land ! (from ! (stop !)) (init ! 17 refl (EL.lawful Answer-row.the-type Answer-row′.the-laws 𝓤 H A W tt .typed x _ is .0)) $ rewrite ! 17 (λ (u : Val). ‵ (fat fullShare Answer-row′.mir l7 0 u)) (ap only (EL.tells Answer-row.the-type Answer-row′.the-laws x _ is)) refl $
+          land ! (from ! (stop !)) (init ! 17 refl (LL.lawful Answered-row.the-type Answered-row′.the-laws 𝓤 H A W .typed x _ is .0)) $ rewrite ! 17 (λ (u : Val). ‵ (fat fullShare Answered-row′.mir l7 0 u)) (ap only (LL.tells Answered-row.the-type Answered-row′.the-laws x _ is)) refl $
           rewrite ! 2 (λ (m : ℕ). ‵ (Room′ κ-room γ-room (ws .1 .1 .1 .0) m)) (sym l) refl $ rewrite ! 12 (λ (m : ℕ). ‵ (fat fullShare (sliceTy (tyRef (named 1) mut byte)) l2 0 (s-room m))) (sym l) refl $
           keep ! (0 ∷ 1 ∷ 2 ∷ 3 ∷ 6 ∷ 7 ∷ 8 ∷ 9 ∷ 10 ∷ 11 ∷ 12 ∷ 13 ∷ 14 ∷ 15 ∷ 16 ∷ 17 ∷ 18 ∷ 19 ∷ 20 ∷ 21 ∷ 22 ∷ 23 ∷ 24 ∷ 25 ∷ 26 ∷ 27 ∷ 28 ∷ 29 ∷ 30 ∷ 31 ∷ 32 ∷ 33 ∷ 34 ∷ 35 ∷ 36 ∷ 37 ∷ 38 ∷ 39 ∷ 40 ∷ 41 ∷ 42 ∷ 43 ∷ []) $ lined f s f-is (ws .0) x (ws .1 .1 .1 .0) e l (answer-is x _ is)))))))))))
 
       -- from the first statement on: the line's step is sought
-      sought : Sq W (‵ (Rec κ γ h) ∷ ‵ (flft κ q) ∷ ‵ (Room′ κ-room γ-room room ((length room))) ∷ ‵ (flft κ-room q-room) ∷ ‵ Piece ∷ ‵ (flft κ-piece q-piece) ∷ ‵ Out′ ∷ ‵ (flft κ-out q-out) ∷ ‵ (froom turn-ty l0 0) ∷ ‵ (fat fullShare (tyRef (named 0) mut rec-ty) l1 0 (vptr b o)) ∷ ‵ (fat fullShare (sliceTy (tyRef (named 1) mut byte)) l2 0 (s-room (length room))) ∷ ‵ (fat fullShare (sliceTy (tyRef (named 2) imm byte)) l3 0 s-piece) ∷ ‵ (fat fullShare (sliceTy (tyRef (named 3) mut byte)) l4 0 s-out) ∷ ‵ (fat fullShare turn-ty l5 0 (LL.val U.the-type U′.the-laws t)) ∷ ‵ (froom found-ty l6 0) ∷ ‵ (froom Answer-row′.mir l7 0) ∷ ‵ (froom byte l8 0) ∷ ‵ (froom (tyRef erased mut rec-ty) l9 0) ∷ ‵ (froom (tyRef erased mut byte) l10 0) ∷ ‵ (froom (sliceTy (tyRef erased mut byte)) l11 0) ∷ ‵ (froom T′.mir l12 0) ∷ ‵ (froom (tyRef erased mut byte) l13 0) ∷ ‵ (froom (sliceTy (tyRef erased mut byte)) l14 0) ∷ ‵ (froom (tyRef erased mut byte) l15 0) ∷ ‵ (froom (sliceTy (tyRef erased mut byte)) l16 0) ∷ Dies) (runs C Λ En pieces.t-1 (atRet En Post))
+      sought : Sq W (‵ (Rec κ γ h) ∷ ‵ (flft κ q) ∷ ‵ (Room′ κ-room γ-room room ((length room))) ∷ ‵ (flft κ-room q-room) ∷ ‵ Piece ∷ ‵ (flft κ-piece q-piece) ∷ ‵ Out′ ∷ ‵ (flft κ-out q-out) ∷ ‵ (froom turn-ty l0 0) ∷ ‵ (fat fullShare (tyRef (named 0) mut rec-ty) l1 0 (vptr b o)) ∷ ‵ (fat fullShare (sliceTy (tyRef (named 1) mut byte)) l2 0 (s-room (length room))) ∷ ‵ (fat fullShare (sliceTy (tyRef (named 2) imm byte)) l3 0 s-piece) ∷ ‵ (fat fullShare (sliceTy (tyRef (named 3) mut byte)) l4 0 s-out) ∷ ‵ (fat fullShare turn-ty l5 0 (LL.val U.the-type U′.the-laws t)) ∷ ‵ (froom found-ty l6 0) ∷ ‵ (froom Answered-row′.mir l7 0) ∷ ‵ (froom byte l8 0) ∷ ‵ (froom (tyRef erased mut rec-ty) l9 0) ∷ ‵ (froom (tyRef erased mut byte) l10 0) ∷ ‵ (froom (sliceTy (tyRef erased mut byte)) l11 0) ∷ ‵ (froom T′.mir l12 0) ∷ ‵ (froom (tyRef erased mut byte) l13 0) ∷ ‵ (froom (sliceTy (tyRef erased mut byte)) l14 0) ∷ ‵ (froom (tyRef erased mut byte) l15 0) ∷ ‵ (froom (sliceTy (tyRef erased mut byte)) l16 0) ∷ Dies) (runs C Λ En pieces.t-1 (atRet En Post))
       sought =
           -- the piece is Copy: one copy is passed, and one is kept
           move ! (4 ∷ []) $ use1 W (‵ Piece ⊛ ‵ Piece) (shr-slice-copy 𝓤 H A W (named 2) κ-piece u8 .twice piece-ref (s-piece ∷ [])) $ split ! $

@@ -43,7 +43,7 @@ use denote.Triple.Table.{entered, cited}
 use denote.Triple.Walked.{says, Stays, gave-ref, stay-none, gave-slice, walkOf, AllGo, goes-none, goes-gave-slice, goes-gave-ref, Walks, ends-at, walked, walk-meets}
 use denote.Exit.{yes}
 use Rattle.controller.specs.Session.{stepOf}
-use Rattle.controller.specs.Calls.{doneOf, stepFor, roomFor}
+use Rattle.controller.specs.Calls.{answeredOf, stepFor, roomFor}
 use Rattle.lines.specs.Grammar.{bytesIn}
 use Rattle.controller.specs.declared.Controller.{Controller}
 use Rattle.controller.proofs.Controller as T
@@ -54,9 +54,9 @@ use Rattle.controller.proofs.Call.Laws as Call-row′
 use Rattle.lines.specs.declared.FrameBytes.{FrameBytes}
 use Rattle.lines.proofs.FrameBytes as Frame-row
 use Rattle.lines.proofs.FrameBytes.Laws as Frame-row′
-use Rattle.rules.specs.declared.Answer.{Answer}
-use Rattle.rules.proofs.Answer as Answer-row
-use Rattle.rules.proofs.Answer.Laws as Answer-row′
+use Rattle.controller.specs.declared.Answered.{Answered}
+use Rattle.controller.proofs.Answered as Answered-row
+use Rattle.controller.proofs.Answered.Laws as Answered-row′
 use Rattle.lines.proofs.FrameLaws.{all-bytes, frame-part}
 use Rattle.replaying.proofs.Bytes.{bytes-val, Lent, Part, lends-bytes, bytes-back}
 use Rattle.in_place.proofs.step as step
@@ -100,8 +100,8 @@ same-list : (xs : List ℕ) → map (λ v. v) xs ≡ xs
 same-list [] = refl
 same-list (x ∷ xs) = ap (λ (ys : List ℕ). x ∷ ys) (same-list xs)
 
-answer-is : (x : Answer) (vs : List Val) → Is Answer-row.the-row x vs → Is Answer-row.the-row x (EL.val Answer-row.the-type Answer-row′.the-laws x ∷ [])
-answer-is x vs g = subst (Is Answer-row.the-row x) (EL.tells Answer-row.the-type Answer-row′.the-laws x vs g) g
+answer-is : (x : Answered) (vs : List Val) → Is Answered-row.the-row x vs → Is Answered-row.the-row x (LL.val Answered-row.the-type Answered-row′.the-laws x ∷ [])
+answer-is x vs g = subst (Is Answered-row.the-row x) (LL.tells Answered-row.the-type Answered-row′.the-laws x vs g) g
 
 module _ {M : Type 1} (𝓤 : URA M) (H : Heap 𝓤) (A : Atoms 𝓤) (W : Given 𝓤 H A) (at-mem : Memory → SProp 𝓤) (run : Routine → Fun 𝓤) (κ κ-room : Lft) (q q-room : Share) (b o : ℕ) (γ : GName) (h : Controller) (call : Call) (f : FrameBytes) (b-room o-room : ℕ) (γ-room : GName) (room : List ℕ) (call-is : Is Call-row.the-row call (EL.val Call-row.the-type Call-row′.the-laws call ∷ [])) (f-is : Is Frame-row.the-row f (LL.val Frame-row.the-type Frame-row′.the-laws f ∷ [])) (room-room : Room u8 (length room)) where
   abbrev rec : RefT Controller
@@ -129,8 +129,8 @@ module _ {M : Type 1} (𝓤 : URA M) (H : Heap 𝓤) (A : Atoms 𝓤) (W : Given
   Post = walkOf 𝓤 H A this.ended stayed (this.clauses 𝓤 H A at-mem run) .post (((κ, (κ-room, tt)), (q, (q-room, tt)), tt, a, at), tt)
 
   -- what is to be said, and what `in_place::step` says of the frame's first k bytes
-  abbrev Says : Controller → Answer → List ℕ → Type 0
-  Says c x zs = (c ≡ doneOf (stepOf h (stepFor call (bytesIn f) room)) .next) × (x ≡ doneOf (stepOf h (stepFor call (bytesIn f) room)) .answer) × (zs ≡ roomFor h call room)
+  abbrev Says : Controller → Answered → List ℕ → Type 0
+  Says c x zs = (c ≡ stepOf h (stepFor call (bytesIn f) room) .next) × (x ≡ answeredOf (stepOf h (stepFor call (bytesIn f) room))) × (zs ≡ roomFor h call room)
 
   -- all its bytes, and so many they are
   abbrev bytes : List ℕ
@@ -148,11 +148,11 @@ module _ {M : Type 1} (𝓤 : URA M) (H : Heap 𝓤) (A : Atoms 𝓤) (W : Given
   bytes-room : Room u8 (length bytes)
   bytes-room = (omega (arith, every), omega (arith, every))
 
-  abbrev Said : ℕ → Controller → Answer → List ℕ → Type 0
-  Said k c x zs = (c ≡ doneOf (stepOf h (stepFor call (take k bytes) room)) .next) × (x ≡ doneOf (stepOf h (stepFor call (take k bytes) room)) .answer) × (zs ≡ roomFor h call room)
+  abbrev Said : ℕ → Controller → Answered → List ℕ → Type 0
+  Said k c x zs = (c ≡ stepOf h (stepFor call (take k bytes) room) .next) × (x ≡ answeredOf (stepOf h (stepFor call (take k bytes) room))) × (zs ≡ roomFor h call room)
 
-  said : (k : ℕ) → k ≡ length (bytesIn f) → {c : Controller} {x : Answer} {zs : List ℕ} → Said k c x zs → Says c x zs
-  said k e p = (p .0 ∙ ap (λ (xs : List ℕ). doneOf (stepOf h (stepFor call xs room)) .next) (part-is k e), p .1 ∙ ap (λ (xs : List ℕ). doneOf (stepOf h (stepFor call xs room)) .answer) (part-is k e), p .2)
+  said : (k : ℕ) → k ≡ length (bytesIn f) → {c : Controller} {x : Answered} {zs : List ℕ} → Said k c x zs → Says c x zs
+  said k e p = (p .0 ∙ ap (λ (xs : List ℕ). stepOf h (stepFor call xs room) .next) (part-is k e), p .1 ∙ ap (λ (xs : List ℕ). answeredOf (stepOf h (stepFor call xs room))) (part-is k e), p .2)
 
   counted : (k : ℕ) → k ≡ length (bytesIn f) → k ≡ length (take k bytes)
   counted k e = e ∙ ap length (sym (part-is k e))
@@ -172,11 +172,11 @@ module _ {M : Type 1} (𝓤 : URA M) (H : Heap 𝓤) (A : Atoms 𝓤) (W : Given
   abbrev Had : Controller → List ℕ → List (Item 𝓤)
   Had c zs = ‵ (fres γ (T.the-row .coded .code c)) ∷ ‵ (flft κ q) ∷ ‵ (flft κ-room q-room) ∷ ‵ (finally u8 γ-room zs) ∷ []
 
-  exits : (c : Controller) (x : Answer) (zs : List ℕ) → Says c x zs → Is Answer-row.the-row x (EL.val Answer-row.the-type Answer-row′.the-laws x ∷ []) → length zs ≡ length room → ent 𝓤 (⋆ 𝓤 H A (Had c zs)) (Post (EL.val Answer-row.the-type Answer-row′.the-laws x))
+  exits : (c : Controller) (x : Answered) (zs : List ℕ) → Says c x zs → Is Answered-row.the-row x (LL.val Answered-row.the-type Answered-row′.the-laws x ∷ []) → length zs ≡ length room → ent 𝓤 (⋆ 𝓤 H A (Had c zs)) (Post (LL.val Answered-row.the-type Answered-row′.the-laws x))
   exits c x zs e g l =
       qed W (Had c zs) ∵
-      suffices ! _ (ends-at 𝓤 H A this.ended stayed (this.clauses 𝓤 H A at-mem run) W (((κ, (κ-room, tt)), (q, (q-room, tt)), tt, a, at), tt) (EL.val Answer-row.the-type Answer-row′.the-laws x) x (c, (tt, (tt, (zs, tt)))) (tt, (tt, (tt, (l, tt))))) $ says ! e $
-      nothing ! $ move ! (3 ∷ 0 ∷ []) $ join ! $ move ! (2 ∷ 0 ∷ []) $ join ! $ frame ! $ nothing ! $ move ! (2 ∷ 0 ∷ []) $ fjoin ! $ owned ! Frame-row.the-row (Is Frame-row.the-row) (LL.makes Frame-row.the-type Frame-row′.the-plain 𝓤 H A) f _ f-is $ fjoin ! $ owned ! Call-row.the-row (Is Call-row.the-row) (EL.makes Call-row.the-type Call-row′.the-plain 𝓤 H A) call _ call-is $ fjoin ! $ move ! (1 ∷ 0 ∷ []) $ fjoin ! $ frame ! $ owned ! Answer-row.the-row (Is Answer-row.the-row) (EL.makes Answer-row.the-type Answer-row′.the-plain 𝓤 H A) x _ g $ done !
+      suffices ! _ (ends-at 𝓤 H A this.ended stayed (this.clauses 𝓤 H A at-mem run) W (((κ, (κ-room, tt)), (q, (q-room, tt)), tt, a, at), tt) (LL.val Answered-row.the-type Answered-row′.the-laws x) x (c, (tt, (tt, (zs, tt)))) (tt, (tt, (tt, (l, tt))))) $ says ! e $
+      nothing ! $ move ! (3 ∷ 0 ∷ []) $ join ! $ move ! (2 ∷ 0 ∷ []) $ join ! $ frame ! $ nothing ! $ move ! (2 ∷ 0 ∷ []) $ fjoin ! $ owned ! Frame-row.the-row (Is Frame-row.the-row) (LL.makes Frame-row.the-type Frame-row′.the-plain 𝓤 H A) f _ f-is $ fjoin ! $ owned ! Call-row.the-row (Is Call-row.the-row) (EL.makes Call-row.the-type Call-row′.the-plain 𝓤 H A) call _ call-is $ fjoin ! $ move ! (1 ∷ 0 ∷ []) $ fjoin ! $ frame ! $ owned ! Answered-row.the-row (Is Answered-row.the-row) (LL.makes Answered-row.the-type Answered-row′.the-plain 𝓤 H A) x _ g $ done !
 
   -- what the calls' triples bind outside, and what they ask
   abbrev to-size : Size 𝓤 H A at-mem run .Ghost
@@ -202,20 +202,20 @@ module _ {M : Type 1} (𝓤 : URA M) (H : Heap 𝓤) (A : Atoms 𝓤) (W : Given
     module _ (l0 l1 l2 l3 l4 l5 l6 l7 l8 l9 l10 l11 : ℕ) where
       -- the locals
       abbrev En : Env 𝓤 H
-      En = (Answer-row′.mir, l0) ∷ (tyRef (named 0) mut rec-ty, l1) ∷ (Call-row′.mir, l2) ∷ (Frame-row′.mir, l3) ∷ (sliceTy (tyRef (named 1) mut byte), l4) ∷ (tyArray byte 34, l5) ∷ (word, l6) ∷ (tyRef erased mut rec-ty, l7) ∷ (tyRef erased imm (tyArray byte 34), l8) ∷ (sliceTy (tyRef erased imm byte), l9) ∷ (tyRef erased mut byte, l10) ∷ (sliceTy (tyRef erased mut byte), l11) ∷ []
+      En = (Answered-row′.mir, l0) ∷ (tyRef (named 0) mut rec-ty, l1) ∷ (Call-row′.mir, l2) ∷ (Frame-row′.mir, l3) ∷ (sliceTy (tyRef (named 1) mut byte), l4) ∷ (tyArray byte 34, l5) ∷ (word, l6) ∷ (tyRef erased mut rec-ty, l7) ∷ (tyRef erased imm (tyArray byte 34), l8) ∷ (sliceTy (tyRef erased imm byte), l9) ∷ (tyRef erased mut byte, l10) ∷ (sliceTy (tyRef erased mut byte), l11) ∷ []
 
       abbrev Dies : List (Item 𝓤)
-      Dies = ‵ (fdies Answer-row′.mir l0) ∷ ‵ (fdies (tyRef (named 0) mut rec-ty) l1) ∷ ‵ (fdies Call-row′.mir l2) ∷ ‵ (fdies Frame-row′.mir l3) ∷ ‵ (fdies (sliceTy (tyRef (named 1) mut byte)) l4) ∷ ‵ (fdies (tyArray byte 34) l5) ∷ ‵ (fdies word l6) ∷ ‵ (fdies (tyRef erased mut rec-ty) l7) ∷ ‵ (fdies (tyRef erased imm (tyArray byte 34)) l8) ∷ ‵ (fdies (sliceTy (tyRef erased imm byte)) l9) ∷ ‵ (fdies (tyRef erased mut byte) l10) ∷ ‵ (fdies (sliceTy (tyRef erased mut byte)) l11) ∷ []
+      Dies = ‵ (fdies Answered-row′.mir l0) ∷ ‵ (fdies (tyRef (named 0) mut rec-ty) l1) ∷ ‵ (fdies Call-row′.mir l2) ∷ ‵ (fdies Frame-row′.mir l3) ∷ ‵ (fdies (sliceTy (tyRef (named 1) mut byte)) l4) ∷ ‵ (fdies (tyArray byte 34) l5) ∷ ‵ (fdies word l6) ∷ ‵ (fdies (tyRef erased mut rec-ty) l7) ∷ ‵ (fdies (tyRef erased imm (tyArray byte 34)) l8) ∷ ‵ (fdies (sliceTy (tyRef erased imm byte)) l9) ∷ ‵ (fdies (tyRef erased mut byte) l10) ∷ ‵ (fdies (sliceTy (tyRef erased mut byte)) l11) ∷ []
 
       -- the `return`
-      left : {y1 y2 y3 y4 y5 y6 y7 y8 y9 y10 y11 : Val} (c : Controller) (x : Answer) (zs : List ℕ) → Says c x zs → Is Answer-row.the-row x (EL.val Answer-row.the-type Answer-row′.the-laws x ∷ []) → length zs ≡ length room → Sq W (‵ (fres γ (T.the-row .coded .code c)) ∷ ‵ (flft κ q) ∷ ‵ (flft κ-room q-room) ∷ ‵ (finally u8 γ-room zs) ∷ ‵ (fat fullShare Answer-row′.mir l0 0 (EL.val Answer-row.the-type Answer-row′.the-laws x)) ∷ ‵ (fat fullShare (tyRef (named 0) mut rec-ty) l1 0 y1) ∷ ‵ (fat fullShare Call-row′.mir l2 0 y2) ∷ ‵ (fat fullShare Frame-row′.mir l3 0 y3) ∷ ‵ (fat fullShare (sliceTy (tyRef (named 1) mut byte)) l4 0 y4) ∷ ‵ (fat fullShare (tyArray byte 34) l5 0 y5) ∷ ‵ (fat fullShare word l6 0 y6) ∷ ‵ (fat fullShare (tyRef erased mut rec-ty) l7 0 y7) ∷ ‵ (fat fullShare (tyRef erased imm (tyArray byte 34)) l8 0 y8) ∷ ‵ (fat fullShare (sliceTy (tyRef erased imm byte)) l9 0 y9) ∷ ‵ (fat fullShare (tyRef erased mut byte) l10 0 y10) ∷ ‵ (fat fullShare (sliceTy (tyRef erased mut byte)) l11 0 y11) ∷ Dies) (runs C Λ En pieces.t-9 (atRet En Post))
+      left : {y1 y2 y3 y4 y5 y6 y7 y8 y9 y10 y11 : Val} (c : Controller) (x : Answered) (zs : List ℕ) → Says c x zs → Is Answered-row.the-row x (LL.val Answered-row.the-type Answered-row′.the-laws x ∷ []) → length zs ≡ length room → Sq W (‵ (fres γ (T.the-row .coded .code c)) ∷ ‵ (flft κ q) ∷ ‵ (flft κ-room q-room) ∷ ‵ (finally u8 γ-room zs) ∷ ‵ (fat fullShare Answered-row′.mir l0 0 (LL.val Answered-row.the-type Answered-row′.the-laws x)) ∷ ‵ (fat fullShare (tyRef (named 0) mut rec-ty) l1 0 y1) ∷ ‵ (fat fullShare Call-row′.mir l2 0 y2) ∷ ‵ (fat fullShare Frame-row′.mir l3 0 y3) ∷ ‵ (fat fullShare (sliceTy (tyRef (named 1) mut byte)) l4 0 y4) ∷ ‵ (fat fullShare (tyArray byte 34) l5 0 y5) ∷ ‵ (fat fullShare word l6 0 y6) ∷ ‵ (fat fullShare (tyRef erased mut rec-ty) l7 0 y7) ∷ ‵ (fat fullShare (tyRef erased imm (tyArray byte 34)) l8 0 y8) ∷ ‵ (fat fullShare (sliceTy (tyRef erased imm byte)) l9 0 y9) ∷ ‵ (fat fullShare (tyRef erased mut byte) l10 0 y10) ∷ ‵ (fat fullShare (sliceTy (tyRef erased mut byte)) l11 0 y11) ∷ Dies) (runs C Λ En pieces.t-9 (atRet En Post))
       left c x zs e g l =
           returns ! (look ! 4 refl) $ forget ! 4 refl $ forget ! 5 refl $ forget ! 6 refl $ forget ! 7 refl $ forget ! 8 refl $ forget ! 9 refl $ forget ! 10 refl $ forget ! 11 refl $ forget ! 12 refl $ forget ! 13 refl $ forget ! 14 refl $ forget ! 15 refl $
           move ! (4 ∷ 16 ∷ []) $ free1 ! $ move ! (4 ∷ 15 ∷ []) $ free1 ! $ move ! (4 ∷ 14 ∷ []) $ free1 ! $ move ! (4 ∷ 13 ∷ []) $ free1 ! $ move ! (4 ∷ 12 ∷ []) $ free1 ! $ move ! (4 ∷ 11 ∷ []) $ free1 ! $ move ! (4 ∷ 10 ∷ []) $ free1 ! $ move ! (4 ∷ 9 ∷ []) $ free1 ! $ move ! (4 ∷ 8 ∷ []) $ free1 ! $ move ! (4 ∷ 7 ∷ []) $ free1 ! $ move ! (4 ∷ 6 ∷ []) $ free1 ! $ move ! (4 ∷ 5 ∷ []) $ free1 ! $ free0 ! $
           by ! (exits c x zs e g l)
 
       -- the step
-      stepped : (k : ℕ) → k ≡ length (bytesIn f) → k < 2 ^ 64 → Sq W (‵ Rec ∷ ‵ (flft κ q) ∷ ‵ Room′ ∷ ‵ (flft κ-room q-room) ∷ ‵ (froom Answer-row′.mir l0 0) ∷ ‵ (fat fullShare (tyRef (named 0) mut rec-ty) l1 0 (vptr b o)) ∷ ‵ (fat fullShare Call-row′.mir l2 0 (EL.val Call-row.the-type Call-row′.the-laws call)) ∷ ‵ (fat fullShare Frame-row′.mir l3 0 (LL.val Frame-row.the-type Frame-row′.the-laws f)) ∷ ‵ (fat fullShare (sliceTy (tyRef (named 1) mut byte)) l4 0 s-room) ∷ ‵ (fat fullShare (tyArray byte 34) l5 0 (bytes-val 𝓤 H A W (0 ∷ []) l5 34 bytes every)) ∷ ‵ (fat fullShare word l6 0 (vint w64 k)) ∷ ‵ (froom (tyRef erased mut rec-ty) l7 0) ∷ ‵ (froom (tyRef erased imm (tyArray byte 34)) l8 0) ∷ ‵ (froom (sliceTy (tyRef erased imm byte)) l9 0) ∷ ‵ (froom (tyRef erased mut byte) l10 0) ∷ ‵ (froom (sliceTy (tyRef erased mut byte)) l11 0) ∷ Dies) (runs C Λ En pieces.t-3 (atRet En Post))
+      stepped : (k : ℕ) → k ≡ length (bytesIn f) → k < 2 ^ 64 → Sq W (‵ Rec ∷ ‵ (flft κ q) ∷ ‵ Room′ ∷ ‵ (flft κ-room q-room) ∷ ‵ (froom Answered-row′.mir l0 0) ∷ ‵ (fat fullShare (tyRef (named 0) mut rec-ty) l1 0 (vptr b o)) ∷ ‵ (fat fullShare Call-row′.mir l2 0 (EL.val Call-row.the-type Call-row′.the-laws call)) ∷ ‵ (fat fullShare Frame-row′.mir l3 0 (LL.val Frame-row.the-type Frame-row′.the-laws f)) ∷ ‵ (fat fullShare (sliceTy (tyRef (named 1) mut byte)) l4 0 s-room) ∷ ‵ (fat fullShare (tyArray byte 34) l5 0 (bytes-val 𝓤 H A W (0 ∷ []) l5 34 bytes every)) ∷ ‵ (fat fullShare word l6 0 (vint w64 k)) ∷ ‵ (froom (tyRef erased mut rec-ty) l7 0) ∷ ‵ (froom (tyRef erased imm (tyArray byte 34)) l8 0) ∷ ‵ (froom (sliceTy (tyRef erased imm byte)) l9 0) ∷ ‵ (froom (tyRef erased mut byte) l10 0) ∷ ‵ (froom (sliceTy (tyRef erased mut byte)) l11 0) ∷ Dies) (runs C Λ En pieces.t-3 (atRet En Post))
       stepped k e k-fits =
           assigns ! (addr ! (from ! (hop ! (look ! 5 refl) (stop !)))) (from ! (stop !)) (init ! 11 refl (tt, tt)) $
           assigns ! (addr ! (from ! (stop !))) (from ! (stop !)) (init ! 12 refl (tt, tt)) $
@@ -226,17 +226,17 @@ module _ {M : Type 1} (𝓤 : URA M) (H : Heap 𝓤) (A : Atoms 𝓤) (W : Given
           lft-new ! tt (λ α. move ! (10 ∷ 0 ∷ []) $ use2 W (later (some (λ (δ : GName). ‵ (Part′ α l5 k δ) ⊛ ‵ (Lent′ α l5) ⊛ ‵ (flft (α ∷ []) fullShare)))) (lends-bytes 𝓤 H A W (α ∷ []) l5 34 bytes every (named 1) fullShare k bytes-is bytes-room) $ await ! tt $ pick ! (λ δ. split ! $ move ! (1 ∷ []) $ split ! $
           rewrite ! 2 (λ (m : ℕ). ‵ (ShrSlice (named 1) (α ∷ []) u8 .own (part-ref l5 k δ) (sliceVal (l5, 0) m ∷ []))) (sym (counted k e)) refl $ move ! (4 ∷ 1 ∷ 6 ∷ 3 ∷ 2 ∷ 5 ∷ []) $ group ! 6 $ use1 W (raw (Step 𝓤 H A at-mem run .pre (to α l5 k δ))) (asked α l5 k δ) $
           calls-at ! fm (Step 𝓤 H A at-mem run) known (to α l5 k δ) (and-then ! (load ! (from ! (stop !)) (look ! 8 refl)) (and-then ! (load ! (from ! (stop !)) (look ! 4 refl)) (and-then ! (load ! (from ! (stop !)) (look ! 10 refl)) (and-then ! (load ! (from ! (stop !)) (look ! 12 refl)) (no-more !))))) (λ v.
-          use1 W (later (some (λ (x : Answer). ((‵ (flft κ q) ⊛ ‵ (flft (α ∷ []) fullShare) ⊛ ‵ (flft κ-room q-room) ⊛ ‵ ftrue) ⊛ ‵ (Answer-row.the-row .own x (v ∷ []))) ⊛ raw (ensured 𝓤 H A step.ended (step.clauses 𝓤 H A at-mem run) (κ, (α ∷ [], (κ-room, tt))) (args l5 k δ) tt x)))) (id⊢ 𝓤 _) $ await ! tt $ pick ! (λ x.
+          use1 W (later (some (λ (x : Answered). ((‵ (flft κ q) ⊛ ‵ (flft (α ∷ []) fullShare) ⊛ ‵ (flft κ-room q-room) ⊛ ‵ ftrue) ⊛ ‵ (Answered-row.the-row .own x (v ∷ []))) ⊛ raw (ensured 𝓤 H A step.ended (step.clauses 𝓤 H A at-mem run) (κ, (α ∷ [], (κ-room, tt))) (args l5 k δ) tt x)))) (id⊢ 𝓤 _) $ await ! tt $ pick ! (λ x.
           split ! $ move ! (1 ∷ []) $ use1 W (some (λ (ws : Lasts step.ended (κ, (α ∷ [], (κ-room, tt))) (args l5 k δ)). ‵ (lasts step.ended (κ, (α ∷ [], (κ-room, tt))) (args l5 k δ) ws) ⊛ raw (fact 𝓤 (Said k (ws .0) x (ws .1 .1 .1 .0))))) (id⊢ 𝓤 _) $ pick ! (λ ws.
           split ! $ move ! (1 ∷ []) $ heard ! (Said k (ws .0) x (ws .1 .1 .1 .0)) (λ p. fsplit ! $ move ! (1 ∷ []) $ fsplit ! $ drop ! $ fsplit ! $ drop ! $ fsplit ! $ fsplit ! $ move ! (1 ∷ []) $ feqL ! (λ l.
-          move ! (3 ∷ []) $ split ! $ move ! (1 ∷ []) $ peeks ! Answer-row.the-row (Is Answer-row.the-row) (shows 𝓤 H A Answer-row.the-row) x (v ∷ []) (λ is. drop ! $ split ! $ move ! (1 ∷ []) $ split ! $ move ! (1 ∷ []) $ split ! $
+          move ! (3 ∷ []) $ split ! $ move ! (1 ∷ []) $ peeks ! Answered-row.the-row (Is Answered-row.the-row) (shows 𝓤 H A Answered-row.the-row) x (v ∷ []) (λ is. drop ! $ split ! $ move ! (1 ∷ []) $ split ! $ move ! (1 ∷ []) $ split ! $
           -- the lifetime is ended, and the local is back
           move ! (2 ∷ []) $ lft-end ! tt $ move ! (0 ∷ 7 ∷ []) $ use2 W (later (‵ (fat fullShare (tyArray byte 34) l5 0 (bytes-val 𝓤 H A W (0 ∷ []) l5 34 bytes every)))) (bytes-back 𝓤 H A W (α ∷ []) l5 34 bytes every) $ await ! tt $
-          land ! (from ! (stop !)) (init ! 7 refl (EL.lawful Answer-row.the-type Answer-row′.the-laws 𝓤 H A W tt .typed x _ is .0)) $ rewrite ! 7 (λ (u : Val). ‵ (fat fullShare Answer-row′.mir l0 0 u)) (ap only (EL.tells Answer-row.the-type Answer-row′.the-laws x _ is)) refl $
+          land ! (from ! (stop !)) (init ! 7 refl (LL.lawful Answered-row.the-type Answered-row′.the-laws 𝓤 H A W .typed x _ is .0)) $ rewrite ! 7 (λ (u : Val). ‵ (fat fullShare Answered-row′.mir l0 0 u)) (ap only (LL.tells Answered-row.the-type Answered-row′.the-laws x _ is)) refl $
           keep ! (6 ∷ 3 ∷ 1 ∷ 4 ∷ 7 ∷ 8 ∷ 9 ∷ 10 ∷ 11 ∷ 0 ∷ 12 ∷ 13 ∷ 14 ∷ 15 ∷ 16 ∷ 17 ∷ 18 ∷ 19 ∷ 20 ∷ 21 ∷ 22 ∷ 23 ∷ 24 ∷ 25 ∷ 26 ∷ 27 ∷ 28 ∷ 29 ∷ []) $ left (ws .0) x (ws .1 .1 .1 .0) (said k e p) (answer-is x _ is) l))))))))
 
       -- from the first statement on: the bytes are copied, and counted
-      sized : Sq W (‵ Rec ∷ ‵ (flft κ q) ∷ ‵ Room′ ∷ ‵ (flft κ-room q-room) ∷ ‵ (froom Answer-row′.mir l0 0) ∷ ‵ (fat fullShare (tyRef (named 0) mut rec-ty) l1 0 (vptr b o)) ∷ ‵ (fat fullShare Call-row′.mir l2 0 (EL.val Call-row.the-type Call-row′.the-laws call)) ∷ ‵ (fat fullShare Frame-row′.mir l3 0 (LL.val Frame-row.the-type Frame-row′.the-laws f)) ∷ ‵ (fat fullShare (sliceTy (tyRef (named 1) mut byte)) l4 0 s-room) ∷ ‵ (froom (tyArray byte 34) l5 0) ∷ ‵ (froom word l6 0) ∷ ‵ (froom (tyRef erased mut rec-ty) l7 0) ∷ ‵ (froom (tyRef erased imm (tyArray byte 34)) l8 0) ∷ ‵ (froom (sliceTy (tyRef erased imm byte)) l9 0) ∷ ‵ (froom (tyRef erased mut byte) l10 0) ∷ ‵ (froom (sliceTy (tyRef erased mut byte)) l11 0) ∷ Dies) (runs C Λ En pieces.t-1 (atRet En Post))
+      sized : Sq W (‵ Rec ∷ ‵ (flft κ q) ∷ ‵ Room′ ∷ ‵ (flft κ-room q-room) ∷ ‵ (froom Answered-row′.mir l0 0) ∷ ‵ (fat fullShare (tyRef (named 0) mut rec-ty) l1 0 (vptr b o)) ∷ ‵ (fat fullShare Call-row′.mir l2 0 (EL.val Call-row.the-type Call-row′.the-laws call)) ∷ ‵ (fat fullShare Frame-row′.mir l3 0 (LL.val Frame-row.the-type Frame-row′.the-laws f)) ∷ ‵ (fat fullShare (sliceTy (tyRef (named 1) mut byte)) l4 0 s-room) ∷ ‵ (froom (tyArray byte 34) l5 0) ∷ ‵ (froom word l6 0) ∷ ‵ (froom (tyRef erased mut rec-ty) l7 0) ∷ ‵ (froom (tyRef erased imm (tyArray byte 34)) l8 0) ∷ ‵ (froom (sliceTy (tyRef erased imm byte)) l9 0) ∷ ‵ (froom (tyRef erased mut byte) l10 0) ∷ ‵ (froom (sliceTy (tyRef erased mut byte)) l11 0) ∷ Dies) (runs C Λ En pieces.t-1 (atRet En Post))
       sized =
           assigns ! (of-opd ! (load ! (from ! (fld ! refl (stop !))) (look-in ! 7 (sub ! 0 refl (whole !))))) (from ! (stop !)) (init ! 9 refl (array-lawful 𝓤 H A W u8 (uint-lawful 𝓤 H A W w8) 34 .typed bytes _ bytes-is .0)) $
           use0 W (raw (Size 𝓤 H A at-mem run .pre to-size)) asked-size $

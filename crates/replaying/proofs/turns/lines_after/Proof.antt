@@ -8,10 +8,10 @@ lines-requires : tie.Need-lines-requires
 lines-requires c κs = search needs
 
 returns : tie.Need-returns
-returns c = lines-same _ _ _ (kept-true (c .before .args .a) (c .match .keys1))
+returns c = lines-same _ _ _ (kept-true (c .before .args .a .answer) (c .match .keys1))
 
 returns-2 : tie.Need-returns-2
-returns-2 c = lines-anew _ _ _ (other-false (c .before .before .args .a) (c .before .match .keys2)) (c .lines .ensures)
+returns-2 c = lines-anew _ _ _ (other-false (c .before .before .args .a .answer) (c .before .match .keys2)) (c .lines .ensures)
 
 pub lines-after-spec : {M : Type 1} → statement M
 lines-after-spec = tie.close (tie.spec lines-requires returns returns-2)

@@ -12,7 +12,7 @@ use Rattle.replaying.proofs.turns.put_row.Tie as tie
 returns : tie.Need-returns
 returns c =
     let a = c .before .before .before .args in
-    put-none {rows = a .t .rows} (now (a .out)) (a .t .written) (fitting (now (a .out)) (a .t .written) (numberedRow (a .t .digits) (wordText (wordOf (a .a))) (detailText (detailOf (a .a) (take 14 (now (a .sent))))) (a .irq))) (not-true (a .t .rows) (c .if1 .taken))
+    put-none {rows = a .t .rows} (now (a .out)) (a .t .written) (fitting (now (a .out)) (a .t .written) (numberedRow (a .t .digits) (wordText (wordOf (a .a))) (detailText (detailOf (a .a) (take 14 (now (a .sent))))) (a .irq) (a .looked))) (not-true (a .t .rows) (c .if1 .taken))
 
 row-requires : tie.Need-row-requires
 row-requires c κs = search needs

@@ -11,7 +11,7 @@ use Rattle.replaying.proofs.turns.put_unread.Tie as tie
 returns : tie.Need-returns
 returns c =
     let a = c .before .before .args in
-    put-none {rows = a .t .rows} (now (a .out)) (a .t .written) (fitting (now (a .out)) (a .t .written) (numberedRow (a .t .digits) unreadText (45 ∷ []) (a .t .irq))) (not-true (a .t .rows) (c .if1 .taken))
+    put-none {rows = a .t .rows} (now (a .out)) (a .t .written) (fitting (now (a .out)) (a .t .written) (numberedRow (a .t .digits) unreadText (45 ∷ []) (a .t .irq) 0)) (not-true (a .t .rows) (c .if1 .taken))
 
 unread-row-requires : tie.Need-unread-row-requires
 unread-row-requires c κs = search needs

@@ -16,8 +16,8 @@ answer-requires c κs =
     let s = c .before .before .before .before .before .before .before in
     (omega (arith, length-number (s .args .x)), s .pre .1)
 
-hex-field-requires : tie.Need-hex-field-requires
-hex-field-requires c κs =
+end-requires : tie.Need-end-requires
+end-requires c κs =
     let s = c .before .before .before .before .before .before .before .before .before .before .before in
     let f = now (s .args .sent) in
     let a = s .args .a in
@@ -29,11 +29,11 @@ same-length c = search needs
 returns : tie.Need-returns
 returns c =
     let s = c .before .before .before .before .before .before .before .before .before .before .before .before .before .before .args in
-    row-over (s .x) (wordText (wordOf (s .a))) (detailText (detailOf (s .a) (now (s .sent)))) (s .irq) (word-some (s .a))
+    row-over (s .x) (wordText (wordOf (s .a))) (detailText (detailOf (s .a) (now (s .sent)))) (s .irq) (s .looked) (word-some (s .a))
     (c .before .before .before .before .before .before .before .before .before .before .number .ensures)
     (c .before .before .before .before .before .before .answer .ensures)
-    (c .before .before .hex-field .ensures)
+    (c .before .before .end .ensures)
 
 pub row-spec : {M : Type 1} → statement M
 row-spec =
-    tie.close (tie.spec number-requires answer-requires hex-field-requires same-length returns)
+    tie.close (tie.spec number-requires answer-requires end-requires same-length returns)

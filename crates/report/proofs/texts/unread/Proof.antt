@@ -13,8 +13,8 @@ number-requires c κs = search needs
 put9-requires : tie.Need-put9-requires
 put9-requires c κs = (omega (arith, length-number (c .before .before .before .before .before .before .before .args .x)), refl)
 
-hex-field-requires : tie.Need-hex-field-requires
-hex-field-requires c κs = omega (arith, length-number (c .before .before .before .before .before .before .before .before .before .before .before .args .x))
+end-requires : tie.Need-end-requires
+end-requires c κs = omega (arith, length-number (c .before .before .before .before .before .before .before .before .before .before .before .args .x))
 
 same-length : tie.Need-same-length
 same-length c = search needs
@@ -23,11 +23,11 @@ returns : tie.Need-returns
 unfolding unreadText
 returns c =
     let s = c .before .before .before .before .before .before .before .before .before .before .before .before .before .before .args in
-    row-over (s .x) unreadText (45 ∷ []) (s .irq) (omega arith)
+    row-over (s .x) unreadText (45 ∷ []) (s .irq) 0 (omega arith)
     (c .before .before .before .before .before .before .before .before .before .before .before .number .ensures)
     (c .before .before .before .before .before .before .put9 .ensures)
-    (c .before .before .hex-field .ensures)
+    (c .before .before .end .ensures)
 
 pub unread-spec : {M : Type 1} → statement M
 unread-spec =
-    tie.close (tie.spec number-requires put9-requires hex-field-requires same-length returns)
+    tie.close (tie.spec number-requires put9-requires end-requires same-length returns)
