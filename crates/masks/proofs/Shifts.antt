@@ -61,8 +61,12 @@ shift-two n h =
     let double : 2 * 2 ^ n ≡ 2 ^ suc n = omega (arith, pow-suc 2 n) in
     ap (λ (x : ℕ). x % 65536) double ∙ mod-eq-of-lt (pow-lt {j = 16} (omega arith))
 
-pub two-positive : (n : ℕ) → n < 15 → 1 ≤ 2 * 2 ^ n % 65536
-two-positive n h = rw (shift-two n h) (pow-pos (suc n))
+-- `1 << n` and `2 << n`
+pub shift-positive : (a n : ℕ) → 1 ≤ a → a ≤ 2 → n < 15 → 1 ≤ a * 2 ^ n % 65536
+shift-positive zero n low high h = absurd (omega arith)
+shift-positive (suc zero) n low high h = one-positive n (omega arith)
+shift-positive (suc (suc zero)) n low high h = rw (shift-two n h) (pow-pos (suc n))
+shift-positive (suc (suc (suc a))) n low high h = absurd (omega arith)
 
 pub up-to-inside : (n : ℕ) → n < 15 → 2 * 2 ^ n % 65536 - 1 ≡ maskOf (λ k. leb k n)
 up-to-inside n h =

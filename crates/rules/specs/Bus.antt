@@ -141,7 +141,7 @@ unfoldable pub raiseLast : Control → ℕ → Control
 raiseLast c i = withMode c (withLast (c .mode) (max (c .mode .last) i))
 
 -- W8: "those from FSIZ to the frame's buffer, that one included, or all dedicated receive buffers if none carries the identifier". The
--- frame's buffer is n, or none; a dedicated receive buffer is one from FSIZ on.
+-- frame's buffer is n, or 16 for none; no buffer below FSIZ is a dedicated receive buffer.
 unfoldable pub examined : Control → ℕ → ℕ
 examined c n = countOf (λ k. isReceive c k && leb k n) 16
 

@@ -1,5 +1,6 @@
+use native.Mathlib.Omega.{arith}
 use borrow.Author.Needs.{needs}
-use Rattle.masks.proofs.Shifts.{two-positive, up-to-inside, up-to-outside}
+use Rattle.masks.proofs.Shifts.{shift-positive, up-to-inside, up-to-outside}
 use Rattle.masks.proofs.up_to.Statement.{statement}
 use Rattle.masks.proofs.up_to.Tie as tie
 
@@ -7,7 +8,7 @@ shl-result : tie.Need-shl-result
 shl-result c = search needs
 
 sub-result : tie.Need-sub-result
-sub-result c = two-positive (c .before .args .n) (c .if1 .taken)
+sub-result c = shift-positive _ (c .before .args .n) (omega arith) (omega arith) (c .if1 .taken)
 
 returns : tie.Need-returns
 returns c = up-to-inside (c .before .args .n) (c .if1 .taken)
