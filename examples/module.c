@@ -25,6 +25,7 @@ static void row(const char *call, uint32_t answer, const char *why) {
     case HEVRUKAN_READ: snprintf(text, sizeof text, "%s $%02X", word, detail); break;
     case HEVRUKAN_STORED:
     case HEVRUKAN_QUEUED:
+    case HEVRUKAN_WAITING:
     case HEVRUKAN_HELDOFF:
     case HEVRUKAN_REFUSED: snprintf(text, sizeof text, "%s %u", word, detail); break;
     default: snprintf(text, sizeof text, "%s", word); break;
@@ -130,16 +131,18 @@ static void receive(void) {
     get(BFRIVEC, "none");
 }
 
-static void hold_off(void) {
+static void meet_lock(void) {
     static const uint8_t released[] = {WINDOW_SWITCH, 3, 0x55, 0xAA, 0x00};
     printf("\nA frame that meets a lock\n");
     put(BFBUFCTL(SWITCH_BUFFER), BF_IENA | BF_LOCK, "locked again");
     pulse("the next cycle");
-    frame(released, sizeof released, "the window switch is let go: held off");
+    frame(released, sizeof released, "the window switch is let go: the frame waits");
     window(BFRIDENT);
-    put(BFBUFCTL(SWITCH_BUFFER), BF_IENA, "released");
-    pulse("the next cycle");
-    frame(released, sizeof released, "the module sends it again");
+    put(BFBUFCTL(SWITCH_BUFFER), BF_IENA, "released, which stores it");
+    lines();
+    put(BFBUFCTL(SWITCH_BUFFER), BF_IENA | BF_LOCK, "locked, to read it");
+    window(BFRIDENT);
+    put(BFBUFCTL(SWITCH_BUFFER), BF_IENA | BF_IFLG, "released; it was read");
 }
 
 static void queue(void) {
@@ -179,7 +182,7 @@ int main(void) {
     }
     set_up();
     receive();
-    hold_off();
+    meet_lock();
     queue();
     transmit();
     refusal();

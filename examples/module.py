@@ -105,16 +105,18 @@ def receive():
     get(BFRIVEC, "none")
 
 
-def hold_off():
+def meet_lock():
     print("\nA frame that meets a lock")
     released = bytes([WINDOW_SWITCH, 3, 0x55, 0xAA, 0x00])
     put(BFBUFCTL(SWITCH_BUFFER), IENA | LOCK, "locked again")
     pulse("the next cycle")
-    frame(released, "the window switch is let go: held off")
+    frame(released, "the window switch is let go: the frame waits")
     window(BFRIDENT)
-    put(BFBUFCTL(SWITCH_BUFFER), IENA, "released")
-    pulse("the next cycle")
-    frame(released, "the module sends it again")
+    put(BFBUFCTL(SWITCH_BUFFER), IENA, "released, which stores it")
+    lines()
+    put(BFBUFCTL(SWITCH_BUFFER), IENA | LOCK, "locked, to read it")
+    window(BFRIDENT)
+    put(BFBUFCTL(SWITCH_BUFFER), IENA | IFLG, "released; it was read")
 
 
 def queue():
@@ -151,7 +153,7 @@ def refusal():
 
 set_up()
 receive()
-hold_off()
+meet_lock()
 queue()
 transmit()
 refusal()

@@ -30,10 +30,10 @@ extern "C" {
 #endif
 
 // The bytes of a record. Its content is the library's business: read it through the registers, and compare two controllers by
-// them too, since three bytes of the record are unused and may be anything. Two of them are the last: no call reads or writes
-// them. They set this header apart from the one before it, whose record had 266 bytes and whose hevrukan_word took all of an
-// answer above the detail: a program built with that one is answered wrong size, and doesn't misread what looked adds.
-#define HEVRUKAN_SIZE 268
+// them too, since one byte of the record is unused and may be anything, and a waiting place that is free again keeps bytes that
+// nothing shows. The headers before this one had records of 266 and of 268 bytes, and no word for a frame that waits: a program
+// built with one of them is answered wrong size.
+#define HEVRUKAN_SIZE 296
 
 struct hevrukan {
     uint16_t record[HEVRUKAN_SIZE / 2];
@@ -67,7 +67,7 @@ enum hevrukan_answer_word {
     HEVRUKAN_READ = 1,        // the value
     HEVRUKAN_STORED = 2,      // the buffer's number
     HEVRUKAN_QUEUED = 3,      // the number of the FIFO's buffer
-    HEVRUKAN_HELDOFF = 4,     // the number of the locked buffer
+    HEVRUKAN_HELDOFF = 4,     // the number of the locked buffer; both waiting places are taken, and the frame is lost
     // 5 stays unused: it was heldback, which no session from reset ever got
     HEVRUKAN_SENT = 6,        // so many bytes of the room are the frame
     HEVRUKAN_PULSE = 7,       // HEVRUKAN_NORMAL or HEVRUKAN_ALARM
@@ -78,6 +78,7 @@ enum hevrukan_answer_word {
     HEVRUKAN_IGNORED = 12,
     HEVRUKAN_WOKE = 13,
     HEVRUKAN_NOTSENT = 14,
+    HEVRUKAN_WAITING = 15,    // the number of the locked buffer; the frame is stored there when it is released
     // What C can pass and document 01 doesn't name. Neither changes a byte of the record or the room.
     HEVRUKAN_UNKNOWN = 64,    // a kind above 8, a value or identifier above 255, a sync or verdict above 1, a fault above 3
     HEVRUKAN_WRONG_SIZE = 65  // the size isn't hevrukan_size(): this header isn't that of the library
@@ -156,8 +157,8 @@ enum hevrukan_bits {
     BF_INITRQ = 0x80,
     BF_MASTER = 0x40,
     BF_ALARM = 0x20,
-    BF_SLPAK = 0x10,
-    BF_SLPRQ = 0x08,
+    BF_SLPAK = 0x10, // asleep
+    BF_SLPRQ = 0x08, // stands without SLPAK while a frame waits: the module works as awake
     BF_WPULSE = 0x04,
     BF_SSWAI = 0x02,
     BF_INITAK = 0x01,
@@ -223,7 +224,8 @@ static inline uint32_t hevrukan_read(struct hevrukan *c, uint32_t address) {
     return hevrukan_plain_step(c, HEVRUKAN_KIND_READ, address, 0);
 }
 
-// Writes a register: ok, refused (1 to 10), or unknown for a value above 255.
+// Writes a register: ok, refused (1 to 10), or unknown for a value above 255. The write that releases a receive buffer stores the
+// frames that wait for it, in order of arrival, and sets IFLG; if SLPRQ stood and no other frame waits, the module is then asleep.
 static inline uint32_t hevrukan_write(struct hevrukan *c, uint32_t address, uint32_t value) {
     return hevrukan_plain_step(c, HEVRUKAN_KIND_WRITE, address, value);
 }
@@ -233,7 +235,7 @@ static inline uint32_t hevrukan_sync(struct hevrukan *c, uint32_t pulse) {
     return hevrukan_plain_step(c, HEVRUKAN_KIND_SYNC, pulse, 0);
 }
 
-// The time at which a master emits its sync pulse: pulse with its kind, or ignored.
+// The time at which a master emits its sync pulse: pulse with its kind, or ignored. It receives its own pulse as any sync.
 static inline uint32_t hevrukan_sync_due(struct hevrukan *c) {
     return hevrukan_plain_step(c, HEVRUKAN_KIND_SYNC_DUE, 0, 0);
 }
@@ -247,10 +249,11 @@ static inline uint32_t hevrukan_slot(struct hevrukan *c, uint32_t identifier, ui
                          room ? room : no_room, room ? room_size : 0);
 }
 
-// A frame on the bus: identifier, length byte, data. verdict says whether its checksum and form were good. stored, queued,
-// heldoff, overrun, unmatched, badframe, ignored, woke, or refused (11). The first five were looked up: hevrukan_looked says in how
-// many buffers. Of what its buffer held before, a stored or queued frame leaves nothing: the data registers behind its last byte
-// read 0. A null frame is one of no bytes.
+// A frame on the bus: identifier, length byte, data. verdict says whether its checksum and form were good. stored, queued, waiting,
+// heldoff, overrun, unmatched, badframe, ignored, woke, or refused (11). The first six were looked up: hevrukan_looked says in how
+// many buffers. A frame whose buffer is locked waits in one of two places, which all receive buffers share, until the buffer is
+// released; with both taken it is held off, and lost. Entering initialization and reset empty the places. Of what its buffer held
+// before, a stored or queued frame leaves nothing: the data registers behind its last byte read 0. A null frame is one of no bytes.
 static inline uint32_t hevrukan_frame(struct hevrukan *c, uint32_t verdict, const uint8_t *frame, size_t frame_size) {
     const uint8_t no_frame[1] = {0};
     uint8_t no_room[1] = {0};
@@ -306,6 +309,7 @@ static inline const char *hevrukan_word_text(uint32_t word) {
     case HEVRUKAN_IGNORED: return "ignored";
     case HEVRUKAN_WOKE: return "woke";
     case HEVRUKAN_NOTSENT: return "notsent";
+    case HEVRUKAN_WAITING: return "waiting";
     case HEVRUKAN_UNKNOWN: return "unknown";
     case HEVRUKAN_WRONG_SIZE: return "wrong size";
     default: return "no such word";

@@ -19,6 +19,14 @@ Answer(word='stored', detail=0, looked=1)
 Answer(word='unmatched', detail=None, looked=16)
 >>> c.lines() == LINE_RECEIVE, c.read(BFRIVEC)
 (True, 0)
+>>> c.write(BFBUFCTL(0), IENA | LOCK).word      # locked, to be read
+'ok'
+>>> c.frame(bytes.fromhex("2101CC"))            # the next one waits
+Answer(word='waiting', detail=0, looked=1)
+>>> c.read(BFRDATA(0)) == 0xAA, c.write(BFBUFCTL(0), IENA | IFLG).word
+(True, 'ok')
+>>> c.write(BFBUFCTL(0), IENA | LOCK).word, c.read(BFRDATA(0)) == 0xCC    # stored by the release
+('ok', True)
 >>> c.write(BFRIDENT, 0x22)
 Traceback (most recent call last):
     ...
@@ -75,7 +83,7 @@ def BFBUFCTL(n):
     return BFBUFCTL0 + n
 
 
-# BFMCR
+# BFMCR. SLPRQ stands without SLPAK while a frame waits: the module works as awake.
 INITRQ, MASTER, ALARM, SLPAK, SLPRQ, WPULSE, SSWAI, INITAK = 0x80, 0x40, 0x20, 0x10, 0x08, 0x04, 0x02, 0x01
 # BFRISR, and the enables in BFRIER
 RCVFIF, RXIF, SYNAIF, SYNNIF, SLMMIF, XSYNIF = 0x80, 0x40, 0x20, 0x10, 0x08, 0x02
@@ -117,8 +125,8 @@ REFUSALS = {
 _READ, _WRITE, _SYNC, _SYNC_DUE, _SLOT, _FRAME, _FAULT, _TIMEOUT = range(1, 9)
 # 5 is unused.
 _WORDS = dict(enumerate("ok read stored queued heldoff".split()))
-_WORDS.update(enumerate("sent pulse refused overrun unmatched badframe ignored woke notsent".split(), 6))
-_WITH_DETAIL = {"read", "stored", "queued", "heldoff", "sent", "pulse"}
+_WORDS.update(enumerate("sent pulse refused overrun unmatched badframe ignored woke notsent waiting".split(), 6))
+_WITH_DETAIL = {"read", "stored", "queued", "waiting", "heldoff", "sent", "pulse"}
 _UNKNOWN, _WRONG_SIZE = 64, 65
 _LARGEST = 0xFFFFFFFF
 
@@ -126,10 +134,10 @@ _LARGEST = 0xFFFFFFFF
 class Answer(typing.NamedTuple):
     """What a step is answered: document 01's word, its detail, and the buffers examined.
 
-    The detail is the buffer's number (stored, queued, heldoff), the frame's bytes (sent), NORMAL_PULSE or ALARM_PULSE
-    (pulse), and None of the others. looked is how many dedicated receive buffers were examined for a frame's buffer (stored,
-    queued, heldoff, overrun, unmatched), 0 to 16: those from FSIZ to its buffer, that one included, or all of them if none
-    carries its identifier. It is 0 for every other answer.
+    The detail is the buffer's number (stored, queued, waiting, heldoff), the frame's bytes (sent), NORMAL_PULSE or
+    ALARM_PULSE (pulse), and None of the others. looked is how many dedicated receive buffers were examined for a frame's
+    buffer (stored, queued, waiting, heldoff, overrun, unmatched), 0 to 16: those from FSIZ to its buffer, that one included,
+    or all of them if none carries its identifier. It is 0 for every other answer.
     """
 
     word: str
@@ -210,7 +218,11 @@ class Controller:
         return self._step(_READ, address, 0, f"read({address})").detail
 
     def write(self, address, value):
-        """Writes a register: ok. Refused 1 to 10."""
+        """Writes a register: ok. Refused 1 to 10.
+
+        The write that releases a receive buffer stores the frames that wait for it, in order of arrival, and sets IFLG; if
+        SLPRQ stood and no other frame waits, the module is then asleep.
+        """
         return self._step(_WRITE, address, value, f"write({address}, {value})")
 
     def sync(self, pulse=NORMAL_PULSE):
@@ -231,9 +243,10 @@ class Controller:
     def frame(self, data, good=True):
         """A frame on the bus, as bytes: identifier, length byte, data; good is the verdict on its checksum and form.
 
-        stored, queued, heldoff, overrun, unmatched, badframe, ignored or woke. Refused 11. The first five were looked up:
-        the answer's looked says in how many buffers. Of what its buffer held before, a stored or queued frame leaves
-        nothing: the data registers behind its last byte read 0.
+        stored, queued, waiting, heldoff, overrun, unmatched, badframe, ignored or woke. Refused 11. The first six were
+        looked up: the answer's looked says in how many buffers. A frame whose buffer is locked waits in one of two places,
+        which all receive buffers share, until the buffer is released; with both taken it is held off, and lost. Of what its
+        buffer held before, a stored or queued frame leaves nothing: the data registers behind its last byte read 0.
         """
         if isinstance(data, int):
             raise TypeError("a frame is bytes, not a number")

@@ -1,5 +1,6 @@
 // The edges of the C interface: sizes, kinds and numbers that document 01 doesn't name, odd frames and rooms, each refusal with
-// its text, the buffers examined for a frame, and that nothing changes where nothing may. tests/interface builds and runs it.
+// its text, the buffers examined for a frame, frames that wait, and that nothing changes where nothing may. tests/interface builds
+// and runs it.
 #include <hevrukan.h>
 
 #include <stdio.h>
@@ -16,17 +17,18 @@ static void check(int holds, const char *what, int line) {
     fprintf(stderr, "tests/interface.c:%d: fails: %s\n", line, what);
 }
 
-// The fields of the library's record, in its order. Two bytes of the record stand behind them.
+// The fields of the library's record, in its order.
 struct filter { uint8_t pattern, mask; };
 struct locks { uint8_t holder, contender; };
 struct mirror {
-    struct { uint8_t init, master, alarm, slpak, slprq, wpulse, sswai, synced, last; } mode;
+    struct { uint8_t init, master, alarm, slprq, wpulse, sswai, synced, last; } mode;
     struct { uint8_t fsiz, tcr1, tcr2, tcr3, rier, gier; struct filter accept, reject; uint8_t bfen; } config;
     struct { uint8_t risr, gisr, clearing; } events;
     struct { uint8_t oldest, next, count, locked; } fifo;
     struct locks receive, transmit;
+    struct { uint8_t first, second, swapped; } places;
     struct { uint16_t cfg, iena, iflg, abtak, armed; } buffers;
-    struct { uint8_t bytes[14]; } rows[16];
+    struct { uint8_t bytes[14]; } rows[16], held[2];
 };
 
 // LOOKED: buffers 2 and 3 are examined where 3 carries the identifier. ALL: the buffers from 2 up to 14.
@@ -54,7 +56,7 @@ static struct hevrukan fresh(void) {
     struct hevrukan c;
     memset(&c, CANARY, sizeof c);
     must(hevrukan_reset(&c, sizeof c));
-    // the unused byte between the fields, behind the two locks
+    // the unused byte between the fields, behind the places
     ((uint8_t *)&c)[offsetof(struct mirror, buffers) - 1] = CANARY;
     return c;
 }
@@ -107,7 +109,7 @@ static void test_size(void) {
     struct aligned { char before; uint16_t number; };
     CHECK(hevrukan_size() == HEVRUKAN_SIZE);
     CHECK(sizeof(struct hevrukan) == HEVRUKAN_SIZE);
-    CHECK(sizeof(struct mirror) + 2 == HEVRUKAN_SIZE);
+    CHECK(sizeof(struct mirror) == HEVRUKAN_SIZE);
     CHECK(offsetof(struct shifted, c) == offsetof(struct aligned, number));
 }
 
@@ -121,11 +123,16 @@ static void test_mirror(void) {
     CHECK(m.mode.init == 0 && m.mode.synced == 1 && m.mode.last == 0x21);
     CHECK(m.config.fsiz == 2 && m.config.accept.mask == 0xFF && m.config.reject.mask == 0xFF && m.config.bfen == 1);
     CHECK(m.events.risr == (BF_SYNNIF | BF_XSYNIF) && m.fifo.count == 0);
-    CHECK(m.receive.holder == 16 && m.transmit.contender == 16);
+    CHECK(m.receive.holder == 16 && m.transmit.contender == 16 && m.places.first == 16 && m.places.second == 16);
     CHECK(m.buffers.cfg == 1u << TRANSMIT && m.buffers.iflg == 1u << RECEIVE && m.buffers.armed == 1u << TRANSMIT);
     CHECK(memcmp(m.rows[RECEIVE].bytes, frame, sizeof frame) == 0 && m.rows[TRANSMIT].bytes[13] == 0xAB);
-    // behind the fields nothing was written, by reset neither
-    for (size_t k = sizeof m; k < sizeof c; k++) CHECK(((const uint8_t *)&c)[k] == CANARY);
+    must(hevrukan_write(&c, BFBUFCTL(RECEIVE), BF_LOCK));
+    CHECK(hevrukan_frame(&c, HEVRUKAN_GOOD, frame, sizeof frame) == said_looked(HEVRUKAN_WAITING, RECEIVE, LOOKED));
+    must(hevrukan_write(&c, BFMCR, BF_SLPRQ));
+    memcpy(&m, &c, sizeof m);
+    CHECK(m.mode.slprq == 1 && m.receive.holder == RECEIVE);
+    CHECK(m.places.first == RECEIVE && m.places.second == 16 && m.places.swapped == 1);
+    CHECK(memcmp(m.held[0].bytes, frame, sizeof frame) == 0);
 }
 
 static void test_reset(void) {
@@ -141,7 +148,7 @@ static void test_reset(void) {
 }
 
 static void test_wrong_size(void) {
-    static const size_t sizes[] = {0, 1, sizeof(struct mirror), HEVRUKAN_SIZE - 1, HEVRUKAN_SIZE + 1, HEVRUKAN_SIZE + 256, (size_t)-1};
+    static const size_t sizes[] = {0, 1, HEVRUKAN_SIZE - 1, HEVRUKAN_SIZE + 1, HEVRUKAN_SIZE + 256, (size_t)-1};
     static const uint8_t frame[] = {0x21, 0};
     for (size_t k = 0; k < sizeof sizes / sizeof sizes[0]; k++) {
         struct hevrukan c = running(), before = c;
@@ -155,28 +162,28 @@ static void test_wrong_size(void) {
     }
 }
 
-// What a program gets that was built with the header before this one: its record has 266 bytes, and its hevrukan_word is
-// answer >> 8. It sees wrong size, whatever it calls, and not a byte of record and room changes.
-static void test_header_before(void) {
-    enum { SIZE = 266, BEHIND = 8 };
-    struct { uint16_t record[SIZE / 2], behind[BEHIND]; } given, before;
+// What a program gets that was built with a header before this one: its record has 266 or 268 bytes, and the hevrukan_word of the
+// first is answer >> 8. It sees wrong size, whatever it calls, and not a byte of record and room changes.
+static void test_header_before(size_t size) {
+    enum { LARGEST = 268, BEHIND = 8 };
+    struct { uint16_t record[LARGEST / 2], behind[BEHIND]; } given, before;
     struct hevrukan *c = (struct hevrukan *)&given;
     static const uint8_t frame[] = {0x21, 1, 0x55};
     uint8_t room[ROOM], untouched[ROOM];
     memset(room, CANARY, sizeof room);
     memset(untouched, CANARY, sizeof untouched);
     memset(&given, CANARY, sizeof given);
-    CHECK(hevrukan_size() != SIZE);
+    CHECK(hevrukan_size() != size);
     for (int of_session = 0; of_session <= 1; of_session++) {
         // at first bytes that no reset wrote, then those of a session
         struct hevrukan session = running();
-        if (of_session) memcpy(given.record, &session, SIZE);
+        if (of_session) memcpy(given.record, &session, size);
         before = given;
-        CHECK(hevrukan_reset(c, SIZE) >> 8 == HEVRUKAN_WRONG_SIZE);
-        CHECK(hevrukan_lines(c, SIZE) >> 8 == HEVRUKAN_WRONG_SIZE);
+        CHECK(hevrukan_reset(c, size) >> 8 == HEVRUKAN_WRONG_SIZE);
+        CHECK(hevrukan_lines(c, size) >> 8 == HEVRUKAN_WRONG_SIZE);
         for (uint32_t kind = 0; kind <= 10; kind++)
             for (uint32_t first = 0; first <= 0x41; first++)
-                CHECK(hevrukan_step(c, SIZE, kind, first, 0, frame, sizeof frame, room, sizeof room) >> 8 == HEVRUKAN_WRONG_SIZE);
+                CHECK(hevrukan_step(c, size, kind, first, 0, frame, sizeof frame, room, sizeof room) >> 8 == HEVRUKAN_WRONG_SIZE);
         CHECK(memcmp(&given, &before, sizeof given) == 0);
         CHECK(memcmp(room, untouched, sizeof room) == 0);
     }
@@ -257,6 +264,8 @@ static void test_looked(void) {
     struct hevrukan c = running();
     CHECK(hevrukan_frame(&c, HEVRUKAN_GOOD, own, 2) == said_looked(HEVRUKAN_STORED, RECEIVE, LOOKED));
     must(hevrukan_write(&c, BFBUFCTL(RECEIVE), BF_LOCK));
+    CHECK(hevrukan_frame(&c, HEVRUKAN_GOOD, own, 2) == said_looked(HEVRUKAN_WAITING, RECEIVE, LOOKED));
+    CHECK(hevrukan_frame(&c, HEVRUKAN_GOOD, own, 2) == said_looked(HEVRUKAN_WAITING, RECEIVE, LOOKED));
     CHECK(hevrukan_frame(&c, HEVRUKAN_GOOD, own, 2) == said_looked(HEVRUKAN_HELDOFF, RECEIVE, LOOKED));
     CHECK(hevrukan_frame(&c, HEVRUKAN_GOOD, other, 2) == said_looked(HEVRUKAN_QUEUED, 0, ALL));
     CHECK(hevrukan_frame(&c, HEVRUKAN_GOOD, other, 2) == said_looked(HEVRUKAN_QUEUED, 1, ALL));
@@ -278,11 +287,74 @@ static void test_looked(void) {
     CHECK(hevrukan_frame(&c, HEVRUKAN_GOOD, other, 2) == said_looked(HEVRUKAN_UNMATCHED, 0, 16));
     // the three parts of an answer, each without the other two
     for (uint32_t looked = 0; looked <= 16; looked++) {
-        uint32_t answer = said_looked(HEVRUKAN_HELDOFF, 15, looked);
-        CHECK(hevrukan_looked(answer) == looked && hevrukan_word(answer) == HEVRUKAN_HELDOFF && hevrukan_detail(answer) == 15);
+        uint32_t answer = said_looked(HEVRUKAN_WAITING, 15, looked);
+        CHECK(hevrukan_looked(answer) == looked && hevrukan_word(answer) == HEVRUKAN_WAITING && hevrukan_detail(answer) == 15);
         CHECK(!hevrukan_is_refused(answer) && hevrukan_is_refused(refused(looked)) && hevrukan_looked(refused(looked)) == 0);
     }
     CHECK(hevrukan_looked(SAID_UNKNOWN) == 0 && hevrukan_looked(SAID_WRONG_SIZE) == 0);
+}
+
+static uint32_t frame_of(struct hevrukan *c, uint8_t data) {
+    const uint8_t frame[] = {0x21, 1, data};
+    return hevrukan_frame(c, HEVRUKAN_GOOD, frame, sizeof frame);
+}
+
+// Frames that wait for a locked buffer: stored when it is released, the newest last; lost where a third comes.
+static void test_waiting(void) {
+    struct hevrukan c = running();
+    CHECK(frame_of(&c, 0xA1) == said_looked(HEVRUKAN_STORED, RECEIVE, LOOKED));
+    must(hevrukan_write(&c, BFBUFCTL(RECEIVE), BF_IENA | BF_LOCK));
+    CHECK(frame_of(&c, 0xA2) == said_looked(HEVRUKAN_WAITING, RECEIVE, LOOKED));
+    CHECK(frame_of(&c, 0xA3) == said_looked(HEVRUKAN_WAITING, RECEIVE, LOOKED));
+    CHECK(frame_of(&c, 0xA4) == said_looked(HEVRUKAN_HELDOFF, RECEIVE, LOOKED));
+    // the window shows none of them, and LOCK 1 on the locked buffer releases nothing
+    must(hevrukan_write(&c, BFBUFCTL(RECEIVE), BF_IENA | BF_IFLG | BF_LOCK));
+    CHECK(hevrukan_read(&c, BFRDATA(0)) == said(HEVRUKAN_READ, 0xA1));
+    CHECK(hevrukan_read(&c, BFBUFCTL(RECEIVE)) == said(HEVRUKAN_READ, BF_IENA | BF_LOCK));
+    // IFLG written 1 is cleared, and set by what is stored
+    must(hevrukan_write(&c, BFBUFCTL(RECEIVE), BF_IENA | BF_IFLG));
+    CHECK(hevrukan_read(&c, BFBUFCTL(RECEIVE)) == said(HEVRUKAN_READ, BF_IENA | BF_IFLG));
+    must(hevrukan_write(&c, BFBUFCTL(RECEIVE), BF_IENA | BF_LOCK));
+    CHECK(hevrukan_read(&c, BFRDATA(0)) == said(HEVRUKAN_READ, 0xA3));
+    // both places are free again; entering initialization empties them, and nothing is stored
+    CHECK(frame_of(&c, 0xA5) == said_looked(HEVRUKAN_WAITING, RECEIVE, LOOKED));
+    CHECK(frame_of(&c, 0xA6) == said_looked(HEVRUKAN_WAITING, RECEIVE, LOOKED));
+    must(hevrukan_write(&c, BFMCR, BF_INITRQ));
+    must(hevrukan_write(&c, BFMCR, 0));
+    must(hevrukan_sync(&c, HEVRUKAN_NORMAL));
+    must(hevrukan_write(&c, BFBUFCTL(RECEIVE), BF_IENA));
+    CHECK(hevrukan_read(&c, BFBUFCTL(RECEIVE)) == said(HEVRUKAN_READ, BF_IENA));
+    must(hevrukan_write(&c, BFBUFCTL(RECEIVE), BF_IENA | BF_LOCK));
+    CHECK(hevrukan_read(&c, BFRDATA(0)) == said(HEVRUKAN_READ, 0xA3));
+}
+
+// SLPRQ stands alone while a frame waits, the module working as awake; SLPAK comes with the release.
+static void test_slprq_alone(void) {
+    struct hevrukan c = running();
+    must(hevrukan_write(&c, BFBUFCTL(RECEIVE), BF_IENA | BF_LOCK));
+    CHECK(frame_of(&c, 0xA1) == said_looked(HEVRUKAN_WAITING, RECEIVE, LOOKED));
+    must(hevrukan_write(&c, BFMCR, BF_SLPRQ));
+    CHECK(hevrukan_read(&c, BFMCR) == said(HEVRUKAN_READ, BF_SLPRQ));
+    struct hevrukan d = c;
+    must(hevrukan_sync(&d, HEVRUKAN_NORMAL));
+    CHECK(hevrukan_read(&d, BFMCR) == said(HEVRUKAN_READ, 0));
+    d = c;
+    must(hevrukan_write(&d, BFMCR, 0));
+    CHECK(hevrukan_read(&d, BFMCR) == said(HEVRUKAN_READ, 0));
+    CHECK(hevrukan_read(&d, BFGISR) == said(HEVRUKAN_READ, 0)); // no waking: no WAKEIF,
+    CHECK(frame_of(&d, 0xA2) == said_looked(HEVRUKAN_WAITING, RECEIVE, LOOKED)); // and still synchronized
+    // none of these cancels it, nor does BFEN 0
+    must(hevrukan_timeout(&c));
+    CHECK(hevrukan_sync_due(&c) == said(HEVRUKAN_IGNORED, 0));
+    CHECK(unchanged(c, HEVRUKAN_KIND_SLOT, 0x42, 0) == said(HEVRUKAN_NOTSENT, 0));
+    must(hevrukan_write(&c, BFPCTLBF, 0));
+    must(hevrukan_write(&c, BFMCR, BF_SLPRQ));
+    CHECK(hevrukan_read(&c, BFMCR) == said(HEVRUKAN_READ, BF_SLPRQ));
+    must(hevrukan_write(&c, BFBUFCTL(RECEIVE), BF_IENA));
+    CHECK(hevrukan_read(&c, BFMCR) == said(HEVRUKAN_READ, BF_SLPRQ | BF_SLPAK));
+    CHECK(unchanged(c, HEVRUKAN_KIND_READ, BFPCTLBF, 0) == refused(2));
+    CHECK(hevrukan_sync(&c, HEVRUKAN_NORMAL) == said(HEVRUKAN_WOKE, 0));
+    CHECK(hevrukan_read(&c, BFBUFCTL(RECEIVE)) == said(HEVRUKAN_READ, BF_IENA | BF_IFLG));
 }
 
 static void test_rooms(void) {
@@ -334,7 +406,7 @@ static void test_texts(void) {
     }
     CHECK(strcmp(hevrukan_refusal_text(0), "no such refusal") == 0 && strcmp(hevrukan_refusal_text(13), "no such refusal") == 0);
     for (uint32_t word = 0; word <= 66; word++) {
-        int named = (word <= HEVRUKAN_NOTSENT && word != 5) || word == HEVRUKAN_UNKNOWN || word == HEVRUKAN_WRONG_SIZE;
+        int named = (word <= HEVRUKAN_WAITING && word != 5) || word == HEVRUKAN_UNKNOWN || word == HEVRUKAN_WRONG_SIZE;
         CHECK((strcmp(hevrukan_word_text(word), "no such word") != 0) == named);
     }
 }
@@ -382,12 +454,15 @@ int main(void) {
     test_mirror();
     test_reset();
     test_wrong_size();
-    test_header_before();
+    test_header_before(266);
+    test_header_before(268);
     test_unknown();
     test_unused();
     test_address();
     test_frames();
     test_looked();
+    test_waiting();
+    test_slprq_alone();
     test_rooms();
     test_refusals();
     test_texts();

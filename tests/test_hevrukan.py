@@ -145,7 +145,8 @@ class Edges(unittest.TestCase):
         c = running()
         self.assertEqual(c.frame(b"\x21\x00").looked, 2)
         c.write(BFBUFCTL(3), LOCK)
-        self.assertEqual(c.frame(b"\x21\x00"), ("heldoff", 3, 2))
+        for word in ("waiting", "waiting", "heldoff"):
+            self.assertEqual(c.frame(b"\x21\x00"), (word, 3, 2))
         for answer in (("queued", 0, 13), ("queued", 1, 13), ("overrun", None, 13), ("overrun", None, 13)):
             self.assertEqual(c.frame(b"\x60\x00"), answer)
         self.assertEqual(asleep().frame(b"\x21\x00"), ("woke", None, 0))
@@ -156,7 +157,34 @@ class Edges(unittest.TestCase):
         self.assertEqual(Answer("ok"), ("ok", None, 0))
         # each part of an answer, whatever the others are
         for looked in range(17):
-            self.assertEqual(Controller._answer(65536 * looked + 256 * 4 + 15, None, ""), ("heldoff", 15, looked))
+            self.assertEqual(Controller._answer(65536 * looked + 256 * 15 + 14, None, ""), ("waiting", 14, looked))
+
+    def test_waiting(self):
+        c = running()
+        c.write(BFBUFCTL(3), IENA | LOCK)
+        for data, word in ((b"\xa1\xff", "waiting"), (b"\xa2", "waiting"), (b"\xa3", "heldoff")):
+            self.assertEqual(c.frame(bytes([0x21, len(data)]) + data), (word, 3, 2))
+        self.assertEqual(c.read(BFRDATA(0)), 0)
+        d = c.copy()
+        for each in (c, d):
+            # the copy's frames wait too, and are stored in order: the newest is left, whole
+            each.write(BFBUFCTL(3), IENA | IFLG)
+            self.assertEqual(each.read(BFBUFCTL(3)), IENA | IFLG)
+            each.write(BFBUFCTL(3), IENA | LOCK)
+            self.assertEqual([each.read(BFRLEN + n) for n in range(3)], [1, 0xA2, 0])
+
+    def test_slprq_alone(self):
+        c = running()
+        c.write(BFBUFCTL(3), LOCK)
+        c.frame(b"\x21\x00")
+        c.write(BFMCR, SLPRQ)
+        self.assertEqual(c.read(BFMCR), SLPRQ)
+        d = c.copy()
+        self.assertEqual(d.fault(EARLY), Answer("ok"))
+        self.assertEqual((d.read(BFMCR), d.read(BFGISR)), (0, SYNEIF))
+        c.write(BFBUFCTL(3), 0)
+        self.assertEqual(c.read(BFMCR), SLPRQ | SLPAK)
+        self.refused(2, c, "read", BFRIVEC)
 
     def test_rooms(self):
         for room in (0, 1, 13):
@@ -194,8 +222,8 @@ class Edges(unittest.TestCase):
         c = running()
         before = bytes_of(c)
         room = ctypes.create_string_buffer(14)
-        # 266: a record of the library before it gave the buffers examined
-        for wrong in (0, 266, size - 1, size + 1):
+        # 266 and 268: the records before this one, the second of a library that gave the buffers examined
+        for wrong in (0, 266, 268, size - 1, size + 1):
             self.assertEqual(library().hevrukan_reset(c._record, wrong), 65 * 256)
             self.assertEqual(library().hevrukan_lines(c._record, wrong), 65 * 256)
             self.assertEqual(library().hevrukan_step(c._record, wrong, 5, 0x41, 0, b"", 0, room, 14), 65 * 256)

@@ -30,7 +30,7 @@ def lean(text):
     return "\n".join(r)
 # ---- what the walks share
 HEAD=f"""-- Assumes nothing.
-use mathlib.Core.Path.{{_≡_, refl, ap, sym, _∙_, subst}}
+use mathlib.Core.Path.{{_≡_, refl, ap, ap₂, sym, _∙_, subst}}
 use Prim.Native.Nat.{{ℕ, _<_, _^_}}
 use mathlib.Core.Bool.{{Bool, not}}
 use mathlib.Core.List.{{[], _∷_, List}}
@@ -76,7 +76,7 @@ use denote.Triple.Walked.{{says, Stays, stay-ref, gave-ref, stay-none, stay-none
 use denote.Exit.{{yes}}"""
 OUT_TY=f"""-- the type of `Change`, with its fields' types by name, so that a field's type is found with nothing computed
 abbrev out-ty : Ty
-out-ty = tyStruct (S.struct .name) (tcons {Ctl.mir()} (tcons (tyInt w8) (tcons (tyArray (tyInt w8) 14) (tcons {Ans.mir()} tnil))))
+out-ty = tyStruct (S.struct .name) (tcons {Ctl.mir()} (tcons (tyInt w8) (tcons (tyInt w8) (tcons (tyArray (tyInt w8) 14) (tcons {Ans.mir()} tnil)))))
 
 abbrev rec-ty : Ty
 rec-ty = pointee (T.the-row .written)
@@ -130,16 +130,22 @@ def closes(w):
     w.to(["cell","own","obor","obs","auth"]); w.emit("closes ! tt T.the-row h (mach h ∷ []) b o $\n"); w.give(5,["obs","bor","tok"])
 FAT=lambda c:f"‵ (fat fullShare T′.mir b o (mach {par(c)}))"
 def raws(c): return f"use1 W ({CELL(c)}) (W .laws .at-raw fullShare T′.mir b o (mach {par(c)})) $ "
-def reads(w,at,mul,ptr,off,tmp,to,low):
-    """`let to = c.rows[at]`, the row i: the borrow is opened for it; low: that i is below 16"""
+class Array:
+    """an array of contents in the record: its name there, its place among the record's fields, where it begins, the laws of its values, and that an index below its length is below 16"""
+    def __init__(self,name,field,begin,long,within,is_,low): self.n=name; self.field=field; self.begin=begin; self.long=long; self.within=within; self.is_=is_; self.low=low
+    def at(self,i): return f"rowAt (h .{self.n}) {i}"
+ROWS_=Array("rows",1,"at-rows","sixteen-values","in-rows","row-is",lambda low:low)
+HELD_=Array("held",2,"at-held","two-values","in-held","held-is",lambda low:f"(below-16 _ {low})")
+def reads(w,arr,at,mul,ptr,off,tmp,to,low):
+    """`let to = c.rows[at]`, or of the frames that wait, element i: the borrow is opened for it; low: that i is below the array's length"""
     opens(w); w.nl()
-    row="rowAt (h .rows) i"; typed=Row.typed(row,f"row-is h was i {low}")
-    w.assign(f"(bin ! {w.load(at)} (lit ! tt) (record {{ fits = byte-fits i {low} }}))",mul,f"(tt, record {{ fits = byte-fits i {low} }})")
+    row=arr.at("i"); typed=Row.typed(row,f"{arr.is_} h was i {low}"); fits=f"byte-fits i {arr.low(low)}"
+    w.assign(f"(bin ! {w.load(at)} (lit ! tt) (record {{ fits = {fits} }}))",mul,f"(tt, record {{ fits = {fits} }})")
     w.assign(f"(addr ! (from ! (hop ! (look ! {w.cell(1)} refl) (fld ! refl (stop !)))))",ptr,"(tt, tt)")
     w.assign(f"(bin ! {w.load(ptr)} {w.load(mul)} tt)",off,"(tt, tt)")
-    w.emit(f"rewrite ! {w.cell(off)} (λ (m : ℕ). ‵ (fat fullShare tyPtr l{off} 0 (vptr b m))) (sym (place-is 14 (o + at-rows) i)) refl $\n")
+    w.emit(f"rewrite ! {w.cell(off)} (λ (m : ℕ). ‵ (fat fullShare tyPtr l{off} 0 (vptr b m))) (sym (place-is 14 (o + {arr.begin}) i)) refl $\n")
     w.to(["cell"]); w.emit("use1 W ("+FAT("h")+") (W .laws .raw-at fullShare T′.mir b o (mach h)) $\n")
-    w.assign(f"(of-opd ! (load ! (from ! (hop ! (look ! {w.cell(off)} refl) (stop !))) (look-in ! {w.at('cell')} (elem-at ! (values (h .rows)) i ({Row.val('noContents')}) ({Row.val(row)}) (value-at (h .rows) i) (in-rows h was i {low}) (sixteen-values h was) (sub ! 1 refl (whole !))))))",tmp,typed)
+    w.assign(f"(of-opd ! (load ! (from ! (hop ! (look ! {w.cell(off)} refl) (stop !))) (look-in ! {w.at('cell')} (elem-at ! (values (h .{arr.n})) i ({Row.val('noContents')}) ({Row.val(row)}) (value-at (h .{arr.n}) i) ({arr.within} h was i {low}) ({arr.long} h was) (sub ! {arr.field} refl (whole !))))))",tmp,typed)
     w.to(["cell"]); w.emit(raws("h")+"\n"); closes(w); w.copy(tmp,to,typed)
 def kept_as(w,D,x,v="v"):
     """the result x of a covered function, of the declared type D, before it lands; is: its relation"""
@@ -178,13 +184,13 @@ def enters(w,FV,N,typ):
     w.emit("pass0 ! $\n")
 
 def carry():
-    LT=[Ans.mir(),"tyRef (named 0) mut rec-ty","out-ty","tyInt w64","tyBool",Row.mir(),"tyInt w64","tyPtr","tyPtr"]; N=len(LT)
+    LT=[Ans.mir(),"tyRef (named 0) mut rec-ty","out-ty","tyInt w64","tyInt w64","tyBool",Row.mir(),"tyInt w64","tyPtr","tyPtr","tyBool",Row.mir(),"tyInt w64","tyPtr","tyPtr"]; N=len(LT)
     CELLS=[f"_{i}" for i in range(N)]; DIES=[f"d{i}" for i in range(N)]; ALL=CELLS+DIES; open_=["cell","obor","obs","auth"]
     val={1:"vptr b o",2:Cha.val("x")}; lemmas=[]
     def lemma(com,name,pre,lhs,code,q,start,body):
         lemmas.append(f"      {com}\n      {name} : {pre}Sq W {items(*start)} (runs C Λ En {code} ({q}))\n      {lhs} =\n          {body.strip()}\n")
     RET="atRet En Post"; NEXT="anyQ Next"; WAS=Con.is_("h")+" → "
-    LT16="Holds (ltb (x .buffer) 16)"; low="(ltb→lt (x .buffer) 16 t)"
+    LT16="Holds (ltb (x .buffer) 16)"; PAST="Holds (not (ltb (x .buffer) 16))"; LT2="Holds (ltb (x .place) 2)"
     # ---- the start
     w=Walk(8); w.ctx=["toks","owns"]
     w.emit("split ! $ "); w.ctx=["tok","true","owns"]; w.to(["owns"]); w.emit("fsplit ! $ move ! (1 ∷ []) $ "); w.give(1,["owns","rec"]); w.emit("fsplit ! $ drop ! $ "); w.keep(["rec","tok"]); w.nl()
@@ -194,60 +200,78 @@ def carry():
     w.ind=10; start=(list(w.ctx),LT,dict(val),{"rec":"‵ (MutRef (named 0) κ T.the-row .own (rec h) (vptr b o ∷ []))","tok":TOK})
     opens(w); w.emit("drop ! $\n"); w.give(1,[])
     w.emit("use1 W ("+FAT("h")+") (W .laws .raw-at fullShare T′.mir b o (mach h)) $\n")
-    w.assign(f"(bin ! {w.part(2,1)} (lit ! tt) tt)",4,"(tt, tt)"); w.keep(open_+ALL); base=list(w.ctx)
-    w.emit(f"first ! $ branches ! {w.load(4)}\n(λ t. placing was t)\n(λ t. leaving was t)")
+    w.assign(f"(bin ! {w.part(2,1)} (lit ! tt) tt)",5,"(tt, tt)"); w.keep(open_+ALL); base=list(w.ctx)
+    w.emit(f"first ! $ branches ! {w.load(5)}\n(λ t. placing was t)\n(λ t. tested was t)")
     lemma("-- the borrow is opened, and the buffer's number is tested","opened","","opened","pieces.t-1",RET,start,w.text())
-    # ---- one buffer's bytes
-    there={**OPENED,"cell":FAT("h")}; val2={**val,4:"y4"}; start=(base,LT,val2,there); w.ctx=list(base)
-    w.assign(f"(un ! {w.part(2,1)} (record {{ fits = buffer-fits t }}))",3,"(tt, record { fits = buffer-fits t })")
-    w.assign(f"(agg ! {w.ops([w.part(2,2)])})",5,Row.typed("row","row-is"))
-    w.assign(f"(bin ! {w.load(3)} (lit ! tt) (record {{ fits = byte-fits (x .buffer) {low} }}))",6,f"(tt, record {{ fits = byte-fits (x .buffer) {low} }})")
-    w.assign(f"(addr ! (from ! (hop ! (look ! {w.cell(1)} refl) (fld ! refl (stop !)))))",7,"(tt, tt)")
-    w.assign(f"(bin ! {w.load(7)} {w.load(6)} tt)",8,"(tt, tt)")
-    w.emit("placed-there t was")
-    mid=dict(val2); mid.update({3:"y3",5:Row.val("row"),6:"y6",7:"y7",8:"vptr b (x .buffer * 14 + (o + at-rows))"})
-    lemma("-- the place of the buffer's bytes is had","placing",us([4])+"→ "+WAS+LT16+" → ","placing was t","code-placing",NEXT,start,w.text())
-    start=(base,LT,mid,there); w.ctx=list(base)
-    w.emit(f"rewrite ! {w.cell(8)} (λ (m : ℕ). ‵ (fat fullShare tyPtr l8 0 (vptr b m))) (sym (place-is 14 (o + at-rows) (x .buffer))) refl $\n")
-    w.emit(f"assigns-last ! (of-opd ! {w.load(5)}) (from ! (hop ! (look ! {w.cell(8)} refl) (stop !))) (store-in ! {w.at('cell')} (elem ! (values (h .rows)) (x .buffer) ({Row.val('row')}) (in-rows h was (x .buffer) {low}) (sixteen-values h was) (sub ! 1 refl (whole !))) {Row.typed('row','row-is')}) $ exec ! C Λ En pieces.t-3 ({RET}) $\n")
-    w.emit(f"rewrite ! {w.at('cell')} (λ (us : List Val). ‵ (fat fullShare T′.mir b o (vstruct (vcons ({Ctl.val('h .control')}) (vcons (arrayVal us) vnil))))) values-set refl $\n")
-    w.emit("".join(f"forget ! {w.cell(k)} refl $ " for k in (3,5,6,7,8))+"ruling placed (stored-so t) (stored-is was)")
-    lemma("-- the bytes are stored there","placed-there",us([3,4,6,7])+"→ "+LT16+" → "+WAS,"placed-there t was","code-placed",NEXT,start,w.text())
-    # ---- no buffer's
+    # ---- the bytes of one buffer, or of one place
+    there={**OPENED,"cell":FAT("h")}; val2={**val,5:"y5"}
+    def arm(arr,name,number,field,ys,n,row,mul,ptr,off,hyp,names,low,fits,record,after):
+        """the arm that stores the bytes in element `number` of arr: hyp, names what is known, low that the number is below the length"""
+        held=dict(val); held.update({i:f"y{i}" for i in ys}); start=(base,LT,held,there); w.ctx=list(base); small=f"byte-fits {number} {arr.low(low)}"
+        w.assign(f"(un ! {w.part(2,field)} (record {{ fits = {fits} }}))",n,f"(tt, record {{ fits = {fits} }})")
+        w.assign(f"(agg ! {w.ops([w.part(2,3)])})",row,Row.typed("row","row-is"))
+        w.assign(f"(bin ! {w.load(n)} (lit ! tt) (record {{ fits = {small} }}))",mul,f"(tt, record {{ fits = {small} }})")
+        w.assign(f"(addr ! (from ! (hop ! (look ! {w.cell(1)} refl) (fld ! refl (stop !)))))",ptr,"(tt, tt)")
+        w.assign(f"(bin ! {w.load(ptr)} {w.load(mul)} tt)",off,"(tt, tt)")
+        w.emit(f"{name}-there {names}")
+        mid=dict(held); mid.update({n:f"y{n}",row:Row.val("row"),mul:f"y{mul}",ptr:f"y{ptr}",off:f"vptr b ({number} * 14 + (o + {arr.begin}))"})
+        lemma("-- the place of the bytes is had",name,us(ys)+"→ "+WAS+hyp,f"{name} {names}",f"code-{name}",NEXT,start,w.text())
+        start=(base,LT,mid,there); w.ctx=list(base)
+        w.emit(f"rewrite ! {w.cell(off)} (λ (m : ℕ). ‵ (fat fullShare tyPtr l{off} 0 (vptr b m))) (sym (place-is 14 (o + {arr.begin}) {number})) refl $\n")
+        w.emit(f"assigns-last ! (of-opd ! {w.load(row)}) (from ! (hop ! (look ! {w.cell(off)} refl) (stop !))) (store-in ! {w.at('cell')} (elem ! (values (h .{arr.n})) {number} ({Row.val('row')}) ({arr.within} h was {number} {low}) ({arr.long} h was) (sub ! {arr.field} refl (whole !))) {Row.typed('row','row-is')}) $ exec ! C Λ En pieces.t-3 ({RET}) $\n")
+        first,second=("arrayVal us","arrayVal (values (h .held))") if arr is ROWS_ else ("arrayVal (values (h .rows))","arrayVal us")
+        w.emit(f"rewrite ! {w.at('cell')} (λ (us : List Val). ‵ (fat fullShare T′.mir b o (vstruct (vcons ({Ctl.val('h .control')}) (vcons ({first}) (vcons ({second}) vnil)))))) (values-set (h .{arr.n}) {number}) refl $\n")
+        w.emit("".join(f"forget ! {w.cell(k)} refl $ " for k in sorted([n,row,mul,ptr,off]+[y for y in ys if y!=5]))+f"ruling {record} {after}")
+        lemma("-- they are stored there",f"{name}-there",us(ys+[n,mul,ptr])+"→ "+WAS+hyp,f"{name}-there {names}",f"code-{name}-there",NEXT,start,w.text())
+    arm(ROWS_,"placing","(x .buffer)",1,[5],3,6,7,8,9,LT16+" → ","was t","(ltb→lt (x .buffer) 16 t)","buffer-fits t","placed","(stored-so t) (stored-is was)")
+    arm(HELD_,"holding","(x .place)",2,[5,10],4,11,12,13,14,PAST+" → "+LT2+" → ","was t u","(ltb→lt (x .place) 2 u)","place-fits u","held-there","(waited-so t u) (waited-is was)")
+    # ---- no buffer's: the place's number is tested
     start=(base,LT,val2,there); w.ctx=list(base)
-    w.emit(f"skips ! $ exec ! C Λ En pieces.t-3 ({RET}) $ ruling h (ruled-so t) (ruled-is was)")
-    lemma("-- no buffer's bytes change","leaving",us([4])+"→ "+WAS+f"Holds (not (ltb (x .buffer) 16)) → ","leaving was t","skipᴹ",NEXT,start,w.text())
+    w.assign(f"(bin ! {w.part(2,2)} (lit ! tt) tt)",10,"(tt, tt)"); w.keep(base)
+    w.emit(f"branches ! {w.load(10)}\n(λ u. holding was t u)\n(λ u. leaving was t u)")
+    lemma("-- no buffer's bytes change: the place's number is tested","tested",us([5])+"→ "+WAS+PAST+" → ","tested was t","code-tested",NEXT,start,w.text())
+    # ---- nor a place's
+    start=(base,LT,{**val2,10:"y10"},there); w.ctx=list(base)
+    w.emit(f"skips ! $ exec ! C Λ En pieces.t-3 ({RET}) $ forget ! {w.cell(10)} refl $ ruling h (ruled-so t u) (ruled-is was)")
+    lemma("-- nor a place's","leaving",us([5,10])+"→ "+WAS+PAST+" → Holds (not (ltb (x .place) 2)) → ","leaving was t u","skipᴹ",NEXT,start,w.text())
     # ---- the control state is stored
     start=(base,LT,val2,{**OPENED,"cell":FAT("m")}); w.ctx=list(base)
     w.emit(f"assigns ! (of-opd ! {w.part(2,0)}) (from ! (hop ! (look ! {w.cell(1)} refl) (fld ! refl (stop !)))) (store-in ! {w.at('cell')} (sub ! 0 refl (whole !)) {Ctl.typed('x .control','control-is')}) $\n")
     w.emit(raws("(ruled m)")+"answered (ruled m) e now-is")
-    lemma("-- the control state is stored","ruling",us([4])+"(m : Controller) → ruled m ≡ changed h x .next → "+Con.is_("(ruled m)")+" → ","ruling m e now-is","pieces.t-3",RET,start,w.text())
+    lemma("-- the control state is stored","ruling",us([5])+"(m : Controller) → ruled m ≡ changed h x .next → "+Con.is_("(ruled m)")+" → ","ruling m e now-is","pieces.t-3",RET,start,w.text())
     # ---- the answer
     w.ctx=list(base); start=(base,LT,val2,{**OPENED,"cell":CELL("c")})
-    w.assign(f"(of-opd ! {w.part(2,3)})",0,Ans.typed("x .answered","answer-is"))
+    w.assign(f"(of-opd ! {w.part(2,4)})",0,Ans.typed("x .answered","answer-is"))
     w.emit(Con.owned("c","now-is")); w.give(0,["own"]); w.to(["cell","own","obor","obs","auth"]); w.emit("closes ! tt T.the-row c (mach c ∷ []) b o $\n"); w.give(5,["obs","bor","tok"])
     end=["obs","bor","tok"]; w.to(end+ALL); w.emit("left c e")
-    lemma("-- the answer, and the borrow's end at the record c","answered",us([4])+"(c : Controller) → c ≡ changed h x .next → "+Con.is_("c")+" → ","answered c e now-is","pieces.t-4",RET,start,w.text())
+    lemma("-- the answer, and the borrow's end at the record c","answered",us([5])+"(c : Controller) → c ≡ changed h x .next → "+Con.is_("c")+" → ","answered c e now-is","pieces.t-4",RET,start,w.text())
     # ---- the return
-    start=(list(w.ctx),LT,{0:Ans.val("x .answered"),1:"y1",2:"y2",4:"y4"},{"obs":OBS("c"),"bor":BOR,"tok":TOK})
-    w.emit(f"returns ! (look ! {w.cell(0)} refl) $ "); w.free(N,[0,1,2,4]); w.keep(end); w.emit("by ! (exits c e)")
-    lemma("-- the `return`","left",us([1,2,4])+"(c : Controller) → c ≡ changed h x .next → ","left c e","pieces.t-5",RET,start,w.text())
+    start=(list(w.ctx),LT,{0:Ans.val("x .answered"),1:"y1",2:"y2",5:"y5"},{"obs":OBS("c"),"bor":BOR,"tok":TOK})
+    w.emit(f"returns ! (look ! {w.cell(0)} refl) $ "); w.free(N,[0,1,2,5]); w.keep(end); w.emit("by ! (exits c e)")
+    lemma("-- the `return`","left",us([1,2,5])+"(c : Controller) → c ≡ changed h x .next → ","left c e","pieces.t-5",RET,start,w.text())
     # ---- what is had at exit
     w=Walk(6); w.ctx=list(end)
     w.emit("nothing ! $ "); w.give(0,["t"]); w.to(["tok","t"]); w.emit("join ! $ frame ! $\n"); w.give(2,[])
     w.emit("nothing ! $ "+Cha.owned("x","x-is")+"fjoin ! $ "); w.give(0,["X"]); w.to(["obs","bor","X"])
     w.emit("feqI ! (List Val) (vptr b o ∷ []) (vptr b o ∷ []) refl $ fjoin3 ! $ fjoin ! $ frame ! $ "+Ans.owned("x .answered","answer-is")+"done !"); exits=w.text()
     x_=lambda k:f"(copyᴹ (placeᴹ 2 (fieldᴹ {k} ∷ [])))"; cp=lambda k:f"(copyᴹ (placeᴹ {k} []))"
+    def codes_(name,field,arr,n,row,mul,ptr,off):
+        return f"""abbrev code-{name}-there : Bodyᴹ
+code-{name}-there = assignᴹ (placeᴹ {off} (deref {Row.mir()} ∷ [])) (rvOpd {cp(row)})
+
+abbrev code-{name} : Bodyᴹ
+code-{name} = seqᴹ (assignᴹ (placeᴹ {n} []) (op1 (cast unsigned unsigned w64) {x_(field)})) (seqᴹ (assignᴹ (placeᴹ {row} []) (aggregate ({x_(3)} ∷ []))) (seqᴹ (assignᴹ (placeᴹ {mul} []) (op2 (mul unsigned) {cp(n)} (intᴹ w64 14))) (seqᴹ (assignᴹ (placeᴹ {ptr} []) (addrOf (placeᴹ 1 (deref T′.mir ∷ fieldᴹ {arr} ∷ [])))) (seqᴹ (assignᴹ (placeᴹ {off} []) (op2 offset {cp(ptr)} {cp(mul)})) code-{name}-there))))
+"""
     bound=f"(((κ, tt), (q, tt), tt, a, at), tt)"
-    TUP=f"LL.tuple-val {Row.a}.the-type {Row.a}′.the-laws"; ROWS="λ (rows : List Contents). record { control = x .control; rows = rows }"
-    put(f"""-- `in_place::carry` meets its contract: a walk of its MIR. The borrow is opened, the buffer's bytes are stored behind it where one buffer's change, and then the control state; it is closed at the record that is there. Written by tools/gen_in_place.py.
+    TUP=f"LL.tuple-val {Row.a}.the-type {Row.a}′.the-laws"; ROWS="λ (rows held : List Contents). record { control = x .control; rows = rows; held = held }"
+    put(f"""-- `in_place::carry` meets its contract: a walk of its MIR. The borrow is opened, the bytes are stored behind it where those of a buffer or of a waiting place change, and then the control state; it is closed at the record that is there. Written by tools/gen_in_place.py.
 {HEAD}
 use Prim.Native.Nat.{{_+_, _*_}}
 use native.Mathlib.Omega.{{arith}}
 use mathlib.Core.List.{{map}}
 use lib.Dec.{{ltb, ltb→lt, nltb→le}}
 use lib.ListN.{{set, length-map}}
-use mir.Syntax.{{tyPtr, skip as skipᴹ, op1, op2, cast, unsigned, mul, offset, int as intᴹ}}
+use mir.Syntax.{{tyPtr, skip as skipᴹ, cond as condᴹ, op1, op2, lt, cast, unsigned, mul, offset, int as intᴹ}}
 use mir.Val.{{vstruct, vcons, vnil}}
 use prog.Memory.{{size}}
 use types.Run.{{un, skips}}
@@ -256,10 +280,10 @@ use denote.Array.{{Array, arrayVal}}
 use denote.Struct.Struct.{{Struct}}
 use denote.Struct.Declared.{{shape}}
 use Rattle.controller.specs.Code.{{changed}}
-use Rattle.controller.specs.CodeLaws.{{placed-none, placed-one}}
+use Rattle.controller.specs.CodeLaws.{{placed-none, placed-one, held-by-row, held-one, held-no-place}}
 {chr(10).join(d.uses() for d in (Con,Cha,Ctl,Row,Ans))}
 use {modp}.Element.{{elem, map-set, array-set}}
-use {modp}.Rows.{{at-rows, values, sixteen-values, in-rows, byte-fits}}
+use {modp}.Rows.{{at-rows, at-held, values, sixteen-values, in-rows, two-values, in-held, byte-fits, below-16}}
 {THIS}
 
 abbrev Arg : Type 0
@@ -269,12 +293,11 @@ abbrev stayed : Stays (this.ended .signature .params) (this.ended .kept)
 stayed = (stay-ref (0 ∷ []) tt (plain (λ _. T.the-row)), (stay-none (λ _. S.the-row) yes, tt))
 
 {OUT_TY}
--- the code of the arm
-abbrev code-placed : Bodyᴹ
-code-placed = assignᴹ (placeᴹ 8 (deref {Row.mir()} ∷ [])) (rvOpd {cp(5)})
-
-abbrev code-placing : Bodyᴹ
-code-placing = seqᴹ (assignᴹ (placeᴹ 3 []) (op1 (cast unsigned unsigned w64) {x_(1)})) (seqᴹ (assignᴹ (placeᴹ 5 []) (aggregate ({x_(2)} ∷ []))) (seqᴹ (assignᴹ (placeᴹ 6 []) (op2 (mul unsigned) {cp(3)} (intᴹ w64 14))) (seqᴹ (assignᴹ (placeᴹ 7 []) (addrOf (placeᴹ 1 (deref T′.mir ∷ fieldᴹ 1 ∷ [])))) (seqᴹ (assignᴹ (placeᴹ 8 []) (op2 offset {cp(7)} {cp(6)})) code-placed))))
+-- the code of the arms
+{codes_("placing",1,1,3,6,7,8,9)}
+{codes_("holding",2,2,4,11,12,13,14)}
+abbrev code-tested : Bodyᴹ
+code-tested = seqᴹ (assignᴹ (placeᴹ 10 []) (op2 (lt unsigned) {x_(2)} (intᴹ w8 2))) (condᴹ {cp(10)} code-holding skipᴹ)
 
 module _ {G} (W : Given 𝓤 H A) {AM} (κ : Lft) (q : Share) (b o : ℕ) (γ : GName) (h : Controller) (x : Change) (x-is : {Cha.is_("x")}) where
   abbrev rec : Controller → RefT Controller
@@ -294,44 +317,77 @@ module _ {G} (W : Given 𝓤 H A) {AM} (κ : Lft) (q : Share) (b o : ℕ) (γ : 
   control-is = LL.owed S.the-type S′.the-laws x _ x-is{path(0)}
 
   answer-is : {Ans.is_("x .answered")}
-  answer-is = LL.owed S.the-type S′.the-laws x _ x-is{path(3)}
+  answer-is = LL.owed S.the-type S′.the-laws x _ x-is{path(4)}
 
   buffer-fits : {LT16} → x .buffer < 2 ^ 64
   buffer-fits t = let n = ltb→lt (x .buffer) 16 t in omega arith
 
-  -- the buffer's bytes as they are after the change
+  place-fits : {LT2} → x .place < 2 ^ 64
+  place-fits t = let n = ltb→lt (x .place) 2 t in omega arith
+
+  -- the bytes as they are after the change
   abbrev row : Contents
   row = record {{ bytes = x .bytes }}
 
   row-is : {Row.is_("row")}
-  row-is = LL.owes {Row.a}.the-type {Row.a}′.the-laws row (LL.owed S.the-type S′.the-laws x _ x-is{path(2)}, tt)
+  row-is = LL.owes {Row.a}.the-type {Row.a}′.the-laws row (LL.owed S.the-type S′.the-laws x _ x-is{path(3)}, tt)
 
   -- a record with the change's control state
   abbrev ruled : Controller → Controller
-  ruled m = record {{ control = x .control; rows = m .rows }}
+  ruled m = record {{ control = x .control; rows = m .rows; held = m .held }}
 
   ruled-is : {Con.is_("h")} → {Con.is_("(ruled h)")}
   ruled-is was = LL.owes T.the-type T′.the-laws (ruled h) (control-is, LL.owed T.the-type T′.the-laws h _ was .1)
 
-  ruled-so : Holds (not (ltb (x .buffer) 16)) → ruled h ≡ changed h x .next
-  ruled-so t = ap ({ROWS}) (sym (placed-none (h .rows) (x .buffer) (x .bytes) (nltb→le (x .buffer) 16 t)))
+  ruled-so : {PAST} → Holds (not (ltb (x .place) 2)) → ruled h ≡ changed h x .next
+  ruled-so t u =
+      let past = nltb→le (x .buffer) 16 t in
+      ap₂ ({ROWS}) (sym (placed-none (h .rows) (x .buffer) (x .bytes) past))
+      (sym (held-no-place (h .held) (x .buffer) (x .place) (x .bytes) past (nltb→le (x .place) 2 u)))
+
+  values-set : (rows : List Contents) (k : ℕ) → set (values rows) k ({Row.val("row")}) ≡ values (set rows k row)
+  values-set rows k = map-set ({TUP}) (map ({Row.a}.the-type .to) rows) k ({Row.a}.the-type .to row) ∙ ap (map ({TUP})) (map-set ({Row.a}.the-type .to) rows k row)
+
+  -- an array with these bytes at k
+  array-is : (n : ℕ) (rows : List Contents) (vs : List Val) (k : ℕ) → Is (Array (Struct (shape {Row.a}.the-type)) n) (map ({Row.a}.the-type .to) rows) vs →
+      Is (Array (Struct (shape {Row.a}.the-type)) n) (map ({Row.a}.the-type .to) (set rows k row)) (arrayVal (values (set rows k row)) ∷ [])
+  array-is n rows vs k g =
+      subst (λ (ys : List _). Is (Array (Struct (shape {Row.a}.the-type)) n) ys (arrayVal (map ({TUP}) ys) ∷ [])) (map-set ({Row.a}.the-type .to) rows k row)
+      (array-set (Struct (shape {Row.a}.the-type)) ({TUP}) (LL.tuple-tells {Row.a}.the-type {Row.a}′.the-laws) n (map ({Row.a}.the-type .to) rows) vs k ({Row.a}.the-type .to row) g row-is)
 
   -- the record with the buffer's bytes, and with both
   abbrev placed : Controller
-  placed = record {{ control = h .control; rows = set (h .rows) (x .buffer) row }}
+  placed = record {{ control = h .control; rows = set (h .rows) (x .buffer) row; held = h .held }}
 
   abbrev stored : Controller
   stored = ruled placed
 
   stored-so : {LT16} → stored ≡ changed h x .next
-  stored-so t = ap ({ROWS}) (sym (placed-one (h .rows) (x .buffer) (x .bytes) (ltb→lt (x .buffer) 16 t)))
-
-  values-set : set (values (h .rows)) (x .buffer) ({Row.val("row")}) ≡ values (set (h .rows) (x .buffer) row)
-  values-set = map-set ({TUP}) (map ({Row.a}.the-type .to) (h .rows)) (x .buffer) ({Row.a}.the-type .to row) ∙ ap (map ({TUP})) (map-set ({Row.a}.the-type .to) (h .rows) (x .buffer) row)
+  stored-so t =
+      let low = ltb→lt (x .buffer) 16 t in
+      ap₂ ({ROWS}) (sym (placed-one (h .rows) (x .buffer) (x .bytes) low)) (sym (held-by-row (h .held) (x .buffer) (x .place) (x .bytes) low))
 
   stored-is : {Con.is_("h")} → {Con.is_("stored")}
-  stored-is was = LL.owes T.the-type T′.the-laws stored (control-is, (subst (λ (ys : List _). Is (Array (Struct (shape {Row.a}.the-type)) 16) ys (arrayVal (map ({TUP}) ys) ∷ [])) (map-set ({Row.a}.the-type .to) (h .rows) (x .buffer) row)
-      (array-set (Struct (shape {Row.a}.the-type)) ({TUP}) (LL.tuple-tells {Row.a}.the-type {Row.a}′.the-laws) 16 (map ({Row.a}.the-type .to) (h .rows)) _ (x .buffer) ({Row.a}.the-type .to row) (LL.owed T.the-type T′.the-laws h _ was .1 .0) row-is), tt))
+  stored-is was =
+      let of-h = LL.owed T.the-type T′.the-laws h _ was in
+      LL.owes T.the-type T′.the-laws stored (control-is, (array-is 16 (h .rows) _ (x .buffer) (of-h .1 .0), of-h .1 .1))
+
+  -- the record with the place's bytes, and with both
+  abbrev held-there : Controller
+  held-there = record {{ control = h .control; rows = h .rows; held = set (h .held) (x .place) row }}
+
+  abbrev waited : Controller
+  waited = ruled held-there
+
+  waited-so : {PAST} → {LT2} → waited ≡ changed h x .next
+  waited-so t u =
+      let past = nltb→le (x .buffer) 16 t in
+      ap₂ ({ROWS}) (sym (placed-none (h .rows) (x .buffer) (x .bytes) past)) (sym (held-one (h .held) (x .buffer) (x .place) (x .bytes) past (ltb→lt (x .place) 2 u)))
+
+  waited-is : {Con.is_("h")} → {Con.is_("waited")}
+  waited-is was =
+      let of-h = LL.owed T.the-type T′.the-laws h _ was in
+      LL.owes T.the-type T′.the-laws waited (control-is, (of-h .1 .0, (array-is 2 (h .held) _ (x .place) (of-h .1 .1 .0), tt)))
 
   -- what is had at exit
   abbrev Had : Controller → List (Item 𝓤)
@@ -350,7 +406,7 @@ module _ {G} (W : Given 𝓤 H A) {AM} (κ : Lft) (q : Share) (b o : ℕ) (γ : 
       abbrev Next : Out → SProp 𝓤
       Next = afterSeq 𝓤 H (Wp 𝓤 H C Λ En pieces.t-3 (atReturn 𝓤 H En Post)) (atReturn 𝓤 H En Post)
 """)
-    order=["left","answered","ruling","leaving","placed-there","placing","opened"]
+    order=["left","answered","ruling","leaving","holding-there","holding","tested","placing-there","placing","opened"]
     byname={l.split("\n")[1].split(" : ")[0].strip():l for l in lemmas}
     put("\n".join(byname[n] for n in order))
     put(f"""    walk : ent 𝓤 (onEntry 𝓤 H A this.signature (κ, tt) (q, tt) a at) (WpFn 𝓤 H C Λ code.function {FV} Post)
@@ -371,11 +427,12 @@ use Rattle.contents.specs.Bytes.{noContents}
 use Rattle.controller.specs.Carry.{rowAt}
 use Rattle.controller.specs.Code.{rowIndex, windowRow, rulingFor, slotRuling, eventChange, frameChange, slotChange, roomSent, readAnswer, controlChange, writeChange}
 use Rattle.controller.specs.CodeLaws.{sync-changes, sync-due-changes, fault-changes, timeout-changes, frame-changes}
-use Rattle.controller.specs.AccessLaws.{read-answers, write-changes}
+use Rattle.waiting.specs.Code.{newestOf}
+use Rattle.controller.specs.AccessLaws.{read-answers}
 use Rattle.controller.proofs.EventLaws.{slot-changes, slot-sends}
-use Rattle.controller.proofs.RegisterLaws.{control-changes}
+use Rattle.controller.proofs.RegisterLaws.{low-changes, control-changes}
 use Rattle.in_place.proofs.Element.{elem-at}
-use Rattle.in_place.proofs.Rows.{at-rows, values, value-at, row-below, window-below, byte-fits, sixteen-rows, sixteen-values, in-rows, row-is, control-is}"""
+use Rattle.in_place.proofs.Rows.{at-rows, at-held, values, value-at, row-below, window-below, newest-place-below, byte-fits, below-16, sixteen-rows, sixteen-values, in-rows, row-is, two-values, in-held, held-is, control-is}"""
 CHANGE_IS=f"""change-is : (x : Change) (vs : List Val) → Is S.the-row x vs → {Cha.is_("x")}
 change-is x vs g = LL.owes S.the-type S′.the-laws x (LL.owed S.the-type S′.the-laws x vs g)
 """
@@ -431,25 +488,25 @@ ASK_ROWS=f"""  abbrev to-rows : Ruling → {rows.at()} .Ghost
 """
 class Look:
     """the locals of a row that is looked at: its index and itself; the product, the two pointers and the copy that the index takes"""
-    def __init__(self,i,row,mul,ptr,off,tmp): self.i=i; self.row=row; self.mul=mul; self.ptr=ptr; self.off=off; self.tmp=tmp
+    def __init__(self,i,row,mul,ptr,off,tmp,arr=ROWS_): self.i=i; self.row=row; self.mul=mul; self.ptr=ptr; self.off=off; self.tmp=tmp; self.arr=arr
     def all(self): return [self.i,self.row,self.mul,self.ptr,self.off,self.tmp]
     def code(self,tag,find,make):
         """the code from the call that finds the index on, up to make"""
         a=lambda i,v,rest:f"seqᴹ (assignᴹ (placeᴹ {i} []) ({v})) ({rest})"
-        c=a(self.mul,f"op2 (mul unsigned) ({cp(self.i)}) (intᴹ w64 14)",a(self.ptr,"addrOf (placeᴹ 1 (deref T′.mir ∷ fieldᴹ 1 ∷ []))",a(self.off,f"op2 offset ({cp(self.ptr)}) ({cp(self.mul)})",a(self.tmp,f"rvOpd (copyᴹ (placeᴹ {self.off} (deref {Row.mir()} ∷ [])))",a(self.row,f"rvOpd ({cp(self.tmp)})",f"code-making-{tag}")))))
+        c=a(self.mul,f"op2 (mul unsigned) ({cp(self.i)}) (intᴹ w64 14)",a(self.ptr,f"addrOf (placeᴹ 1 (deref T′.mir ∷ fieldᴹ {self.arr.field} ∷ []))",a(self.off,f"op2 offset ({cp(self.ptr)}) ({cp(self.mul)})",a(self.tmp,f"rvOpd (copyᴹ (placeᴹ {self.off} (deref {Row.mir()} ∷ [])))",a(self.row,f"rvOpd ({cp(self.tmp)})",f"code-making-{tag}")))))
         return f"abbrev code-making-{tag} : Bodyᴹ\ncode-making-{tag} = {make}\n\nabbrev code-reading-{tag} : Bodyᴹ\ncode-reading-{tag} = {c}\n\nabbrev code-finding-{tag} : Bodyᴹ\ncode-finding-{tag} = seqᴹ ({find} (placeᴹ {self.i} [])) code-reading-{tag}\n"
 def codes(tag): return [f"code-{x}-{tag}" for x in ("finding","reading","making")]
 ROW="rowAt (h .rows) i"
 def looks(lemma,w,LT,ctx,val,held,ys,L,codes,q,tag,hyp,names,find,at,below,make):
-    """the lemmas of a row that is looked at: its index i, of which find hears `at`, that it is below 16, the row, and what is made of it; hyp, names: what is known before"""
+    """the lemmas of a row that is looked at: its index i, of which find hears `at`, that it is below the length, the row, and what is made of it; hyp, names: what is known before"""
     AT=f"(i : ℕ) → {at} → "; val={**val,**{i:f"y{i}" for i in ys}}
     w.ctx=list(ctx); start=(ctx,LT,val,held); find(w)
     w.emit("drop ! $ split ! $ drop ! $\n"); w.give(2,["own"]); w.emit("peeks ! usize (Is usize) (shows 𝓤 H A usize) i (v ∷ []) (λ is. drop ! $\n"); w.give(1,[])
     w.land(L.i,LT[L.i],"(uint-lawful 𝓤 H A W w64 .typed i _ is .0)","(ap only (is .0))"); w.keep(ctx); w.emit(f"reading-{tag} {names} i p"); one=w.text()
     w.ctx=list(ctx); start2=(ctx,LT,{**val,L.i:"vint w64 i"},held)
-    reads(w,L.i,L.mul,L.ptr,L.off,L.tmp,L.row,below); w.keep(ctx); w.emit(f"making-{tag} {names} i p (sixteen-rows h was) (row-is h was i {below})"); two=w.text()
-    more=[i for i in L.all() if i!=L.row]; w.ctx=list(ctx); start3=(ctx,LT,{**val,**{i:f"y{i}" for i in more},L.row:Row.val(ROW)},held); make(w)
-    lemma("-- what is made of the row",f"making-{tag}",us(ys+more)+hyp+AT+f"length (h .rows) ≡ 16 → {Row.is_(ROW)} → ",f"making-{tag} {names} i p sixteen k-is",codes[2],q,start3,w.text())
+    reads(w,L.arr,L.i,L.mul,L.ptr,L.off,L.tmp,L.row,below); w.keep(ctx); w.emit(f"making-{tag} {names} i p (sixteen-rows h was) ({L.arr.is_} h was i {below})"); two=w.text()
+    more=[i for i in L.all() if i!=L.row]; w.ctx=list(ctx); start3=(ctx,LT,{**val,**{i:f"y{i}" for i in more},L.row:Row.val(L.arr.at("i"))},held); make(w)
+    lemma("-- what is made of the row",f"making-{tag}",us(ys+more)+hyp+AT+f"length (h .rows) ≡ 16 → {Row.is_(L.arr.at('i'))} → ",f"making-{tag} {names} i p sixteen k-is",codes[2],q,start3,w.text())
     lemma("-- the row is read",f"reading-{tag}",us(ys)+hyp+AT,f"reading-{tag} {names} i p",codes[1],q,start2,two)
     lemma("-- the index of its row",f"finding-{tag}",us(ys)+hyp,f"finding-{tag} {names}",codes[0],q,start,one)
 def indexed(w,c,to,ask,args,ops,at):
@@ -596,10 +653,10 @@ def takes_control(w,i):
 def control_of(i): return f"assignᴹ (placeᴹ {i} []) (rvOpd (copyᴹ (placeᴹ 1 (deref T′.mir ∷ fieldᴹ 0 ∷ []))))"
 
 def write():
-    con="controller"; windows=Callee("windows",con,"registers.window_row"); lows=Callee("lows",con,"registers.write_change"); controls=Callee("controls",con,"registers.control_change"); carries=Callee("carries",crate,"carry"); CS=[windows,lows,controls,carries]
+    con="controller"; windows=Callee("windows",con,"registers.window_row"); lows=Callee("lows",con,"registers.write_change"); places=Callee("places",con,"registers.newest_place"); controls=Callee("controls",con,"registers.control_change"); carries=Callee("carries",crate,"carry"); CS=[windows,lows,places,controls,carries]
     byte="tyInt w8"; ref="tyRef erased mut rec-ty"
-    LT=[Ans.mir(),"tyRef (named 0) mut rec-ty",byte,byte,Ctl.mir(),"tyInt w64",Row.mir(),"out-ty",Ctl.mir(),"out-ty","tyBool",Ans.mir(),"tyInt w64","tyPtr","tyPtr",Row.mir(),ref,byte,ref]; N=len(LT)
-    L=Look(5,6,12,13,14,15); ANS=11; CELLS=[f"_{i}" for i in range(N)]; DIES=[f"d{i}" for i in range(N)]; ALL=CELLS+DIES
+    LT=[Ans.mir(),"tyRef (named 0) mut rec-ty",byte,byte,Ctl.mir(),"tyInt w64",Row.mir(),"out-ty",Ctl.mir(),byte,"tyInt w64",Row.mir(),"out-ty","tyBool",Ans.mir(),"tyInt w64","tyPtr","tyPtr",Row.mir(),ref,"tyInt w64","tyPtr","tyPtr",Row.mir(),ref]; N=len(LT)
+    L=Look(5,6,15,16,17,18); L2=Look(10,11,20,21,22,23,HELD_); ANS=14; TEST=13; CELLS=[f"_{i}" for i in range(N)]; DIES=[f"d{i}" for i in range(N)]; ALL=CELLS+DIES
     val={1:"vptr b o",2:"vint w8 n",3:"vint w8 u"}; had=["rec","tok"]; HELD={"rec":"‵ Rec","tok":TOK}; lemmas=[]
     def lemma(com,name,pre,lhs,code,q,start,body):
         lemmas.append(f"      {com}\n      {name} : {pre}Sq W {items(*start)} (runs C Λ En {code} ({q}))\n      {lhs} =\n          {body.strip()}\n")
@@ -609,7 +666,7 @@ def write():
     FV=lst(["vptr b o","vint w8 n","vint w8 u"]); enters(w,FV,N,["(tt, tt)",typed("n","u8","n-fits"),typed("u","u8","u-fits")])
     w.to(had+ALL); w.emit("tested "+" ".join(f"l{i}" for i in range(N))); walk=w.text(); base=list(w.ctx); w.ind=10
     # ---- the return
-    end=["res","tok"]; ctx=end+ALL; w.ctx=list(ctx); kept=[1,2,3,10]
+    end=["res","tok"]; ctx=end+ALL; w.ctx=list(ctx); kept=[1,2,3,TEST]
     start=(ctx,LT,{**{i:f"y{i}" for i in kept},ANS:Ans.val("m")},{"res":"‵ (fres γ (T.the-row .coded .code c))","tok":TOK})
     w.copy(ANS,0,Ans.typed("m","g")); w.emit(f"returns ! (look ! {w.cell(0)} refl) $ "); w.free(N,[0]+kept+[ANS]); w.keep(end); w.emit("by ! (exits c m e g)")
     lemma("-- the `return`","answered",us(kept)+f"(c : Controller) (m : Answered) → Says c m → {Ans.is_('m')} → ","answered c m e g","pieces.t-3",RET,start,w.text())
@@ -619,36 +676,38 @@ def write():
         w.ctx=list(ctx); start=(ctx,LT,{**val,**{i:f"y{i}" for i in ys},out:Cha.val("x")},held)
         lends(w,carries,ref,"(to-carry x)","(asked-carry x x-is)","(args-carry x)",[out],CARRIED,last=True)
         w.land(ANS,LT[ANS],Ans.typed("m","is"),Ans.same("m","is"),last=True)
-        w.emit(f"exec ! C Λ En pieces.t-3 ({RET}) $ "+"".join(f"forget ! {w.cell(i)} refl $ " for i in sorted([i for i in ys if i!=10]+[out,ref]))); w.nl(); w.keep(end+ALL); w.emit(f"answered (ws .0) m ({ENDS}) (answer-is m _ is)")
+        w.emit(f"exec ! C Λ En pieces.t-3 ({RET}) $ "+"".join(f"forget ! {w.cell(i)} refl $ " for i in sorted([i for i in ys if i!=TEST]+[out,ref]))); w.nl(); w.keep(end+ALL); w.emit(f"answered (ws .0) m ({ENDS}) (answer-is m _ is)")
         lemma("-- the change is carried out, the record being lent again at its own lifetime",f"carried-{tag}",us(ys)+f"(x : Change) → {Cha.is_('x')} → changed h x ≡ {GOAL} → ",f"carried-{tag} x x-is e",f"(carrying {ref} {out})",NEXT,start,w.text())
     def changing(fn,k,ask,out,ops,fact,end):
         w.emit(f"use0 W (raw ({fn.at()} .pre {par('to-'+fn.a+k)})) {ask} $\n"); w.give(0,["pre"])
         called(w,fn,par("to-"+fn.a+k),par("args-"+fn.a+k),[w.load(i) for i in ops],"Change","x","v","tt","‵ ftrue",Cha.row(),fact,"g"); kept_as(w,Cha,"x"); changes(w,LT,ctx,out,end)
     # ---- below $50: the row of the window is looked at
-    carried("low",7,16,[10,4]+[i for i in L.all()])
+    carried("low",7,19,[TEST,4]+L.all())
     at="i ≡ windowRow (h .control) (registerAt n)"
-    looks(lemma,w,LT,ctx,{**val,4:Ctl.val("h .control")},held,[10],L,codes("low"),NEXT,"low",f"→ {Ctl.is_('h .control')} → ","d-is",lambda w:indexed(w,windows,"to-windows","(asked-windows d-is)","(h .control, (n, tt))",lambda:[w.load(4),w.load(2)],at),at,"(window-below (h .control) (registerAt n) i p)",
-      lambda w:changing(lows,f" ({ROW})",f"(asked-lows ({ROW}) d-is k-is)",7,[4,2,3,6],f"x ≡ writeChange (h .control) n u ({ROW})","carried-low x (change-is x _ is) (ap (changed h) g ∙ write-changes h sixteen n u _ (ap (rowAt (h .rows)) p))"))
-    w.ctx=list(base); start=(base,LT,{**val,10:"y10"},HELD); takes_control(w,4); w.keep(ctx); w.emit("finding-low (control-is h was)")
-    lemma("-- a register below $50","on-low",us([10])+"→ ","on-low","code-low",NEXT,start,w.text())
-    # ---- a control register, whose buffer's number is had first
-    carried("control",9,18,[10,8,17]); w.ctx=list(base); takes_control(w,8); w.assign(f"(bin ! {w.load(2)} (lit ! tt) (nltb→le n 0x50 t))",17,"(tt, record { fits = number-fits })"); w.keep(ctx)
-    changing(controls,"","(asked-controls (control-is h was))",9,[8,17,3],"x ≡ controlChange (h .control) (n - 0x50) u","carried-control x (change-is x _ is) (ap (changed h) g ∙ control-changes h (sixteen-rows h was) n u (nltb→le n 0x50 t))")
-    lemma("-- a control register","on-control",us([10])+"→ Holds (not (ltb n 0x50)) → ","on-control t","code-control",NEXT,start,w.text())
+    looks(lemma,w,LT,ctx,{**val,4:Ctl.val("h .control")},held,[TEST],L,codes("low"),NEXT,"low",f"→ Holds (ltb n 0x50) → {Ctl.is_('h .control')} → ","t d-is",lambda w:indexed(w,windows,"to-windows","(asked-windows d-is)","(h .control, (n, tt))",lambda:[w.load(4),w.load(2)],at),at,"(window-below (h .control) (registerAt n) i p)",
+      lambda w:changing(lows,f" ({ROW})",f"(asked-lows ({ROW}) d-is k-is)",7,[4,2,3,6],f"x ≡ writeChange (h .control) n u ({ROW})","carried-low x (change-is x _ is) (ap (changed h) g ∙ low-changes h sixteen n u (ltb→lt n 0x50 t) _ (ap (rowAt (h .rows)) p))"))
+    w.ctx=list(base); start=(base,LT,{**val,TEST:f"y{TEST}"},HELD); takes_control(w,4); w.keep(ctx); w.emit("finding-low t (control-is h was)")
+    lemma("-- a register below $50","on-low",us([TEST])+"→ Holds (ltb n 0x50) → ","on-low t","code-low",NEXT,start,w.text())
+    # ---- a control register, whose buffer's number is had first; then the newest frame that waits for it is looked at
+    carried("control",12,24,[TEST,8,9]+L2.all()); m="(n - 0x50)"; at2=f"i ≡ newestOf (h .control .places) {m}"; IMAGE=HELD_.at("i")
+    looks(lemma,w,LT,ctx,{**val,8:Ctl.val("h .control"),9:f"vint w8 {m}"},held,[TEST],L2,codes("control"),NEXT,"control",f"→ Holds (not (ltb n 0x50)) → {Ctl.is_('h .control')} → ","t d-is",lambda w:indexed(w,places,"to-places","(asked-places d-is)",f"(h .control, ({m}, tt))",lambda:[w.load(8),w.load(9)],at2),at2,f"(newest-place-below (h .control .places) {m} i p)",
+      lambda w:changing(controls,f" ({IMAGE})",f"(asked-controls ({IMAGE}) d-is k-is)",12,[8,9,3,11],f"x ≡ controlChange (h .control) {m} u ({IMAGE})","carried-control x (change-is x _ is) (ap (changed h) g ∙ control-changes h sixteen n u (nltb→le n 0x50 t) _ (ap (rowAt (h .held)) p))"))
+    w.ctx=list(base); start=(base,LT,{**val,TEST:f"y{TEST}"},HELD); takes_control(w,8); w.assign(f"(bin ! {w.load(2)} (lit ! tt) (nltb→le n 0x50 t))",9,"(tt, record { fits = number-fits })"); w.keep(ctx); w.emit("finding-control t (control-is h was)")
+    lemma("-- a control register","on-control",us([TEST])+"→ Holds (not (ltb n 0x50)) → ","on-control t","code-control",NEXT,start,w.text())
     # ---- the test
-    w.ctx=list(base); start=(base,LT,dict(val),HELD); w.assign(f"(bin ! {w.load(2)} (lit ! tt) tt)",10,"(tt, tt)"); w.emit(f"first ! $ branches ! {w.load(10)}\n(λ t. on-low)\n(λ t. on-control t)")
+    w.ctx=list(base); start=(base,LT,dict(val),HELD); w.assign(f"(bin ! {w.load(2)} (lit ! tt) tt)",TEST,"(tt, tt)"); w.emit(f"first ! $ branches ! {w.load(TEST)}\n(λ t. on-low t)\n(λ t. on-control t)")
     lemma("-- the address is tested","tested","","tested","pieces.t-1",RET,start,w.text())
     # ---- what is asked, and what is had at exit
     w=Walk(6); w.ctx=list(end); w.emit("nothing ! $ "); w.give(0,["t"]); w.to(["tok","t"]); w.emit("join ! $ frame ! $\n"); w.give(2,[])
     w.emit("nothing ! $ "+owned("u","u8")+owned("n","u8")); w.give(0,["X"]); w.to(["res","X"]); w.emit("fjoin ! $ frame ! $ "+Ans.owned("m","g")+"done !"); exits=w.text()
-    bound="(((κ, tt), (q, tt), tt, a, at), tt)"; nl=chr(10); cval=f"{Ctl.val('h .control')} ∷ []"
-    put(f"""-- `in_place::write` meets its contract: a walk of its MIR. The borrow is opened for the control state, and below $50 again for the one row that the window shows; the change goes on to `carry` with the reference at its own lifetime, which
+    NUMBER="owned ! u8 (Is u8) (uint-makes 𝓤 H A W w8) (n - 0x50) _ (refl, number-fits) $ fjoin ! $ "; bound="(((κ, tt), (q, tt), tt, a, at), tt)"; nl=chr(10); cval=f"{Ctl.val('h .control')} ∷ []"
+    put(f"""-- `in_place::write` meets its contract: a walk of its MIR. The borrow is opened for the control state, and again for the one row that the window shows, or from $50 on for the newest frame that waits; the change goes on to `carry` with the reference at its own lifetime, which
 -- gives back what says its last value. All that the proof knows of the functions called is that they meet their contracts. Written by tools/gen_in_place.py.
 {HEAD}
 use Prim.Native.Nat.{{_-_}}
 use native.Mathlib.Omega.{{arith}}
 use mir.Syntax.{{sub as subᴹ}}
-use lib.Dec.{{ltb, nltb→le}}
+use lib.Dec.{{ltb, ltb→lt, nltb→le}}
 use Rattle.rules.specs.Steps.{{write as writeStep}}
 use Rattle.rules.specs.Registers.{{registerAt}}
 {SESSION}
@@ -671,12 +730,13 @@ stayed = (gave-ref (0 ∷ []) tt (plain (λ _. T.the-row)), (stay-none (λ _. u8
 
 -- the code of the two ways
 {CARRYING(ANS)}
-{L.code("low",f"callᴹ #windows ({cp(4)} ∷ {cp(2)} ∷ [])",f"seqᴹ (callᴹ #lows ({cp(4)} ∷ {cp(2)} ∷ {cp(3)} ∷ {cp(6)} ∷ []) (placeᴹ 7 [])) (carrying 16 7)")}
+{L.code("low",f"callᴹ #windows ({cp(4)} ∷ {cp(2)} ∷ [])",f"seqᴹ (callᴹ #lows ({cp(4)} ∷ {cp(2)} ∷ {cp(3)} ∷ {cp(6)} ∷ []) (placeᴹ 7 [])) (carrying 19 7)")}
+{L2.code("control",f"callᴹ #places ({cp(8)} ∷ {cp(9)} ∷ [])",f"seqᴹ (callᴹ #controls ({cp(8)} ∷ {cp(9)} ∷ {cp(3)} ∷ {cp(11)} ∷ []) (placeᴹ 12 [])) (carrying 24 12)")}
 abbrev code-low : Bodyᴹ
 code-low = seqᴹ ({control_of(4)}) code-finding-low
 
 abbrev code-control : Bodyᴹ
-code-control = seqᴹ ({control_of(8)}) (seqᴹ (assignᴹ (placeᴹ 17 []) (op2 (subᴹ unsigned) ({cp(2)}) (intᴹ w8 80))) (seqᴹ (callᴹ #controls ({cp(8)} ∷ {cp(17)} ∷ {cp(3)} ∷ []) (placeᴹ 9 [])) (carrying 18 9)))
+code-control = seqᴹ ({control_of(8)}) (seqᴹ (assignᴹ (placeᴹ 9 []) (op2 (subᴹ unsigned) ({cp(2)}) (intᴹ w8 80))) code-finding-control)
 
 module _ {G} (W : Given 𝓤 H A) {AM} (κ : Lft) (q : Share) (b o : ℕ) (γ : GName) (h : Controller) (n u : ℕ) (n-fits : n < 2 ^ 8) (u-fits : u < 2 ^ 8) where
 {REC}
@@ -710,14 +770,20 @@ module _ {G} (W : Given 𝓤 H A) {AM} (κ : Lft) (q : Share) (b o : ℕ) (γ : 
   number-fits : n - 0x50 < 2 ^ 8
   number-fits = omega (arith, n-fits)
 
-  abbrev args-controls : Control × (ℕ × (ℕ × Unit {{0}}))
-  args-controls = (h .control, (n - 0x50, (u, tt)))
+  abbrev to-places : {places.at()} .Ghost
+  to-places = ((tt, tt, tt, (h .control, (n - 0x50, tt)), ({cval}, (vint w8 (n - 0x50) ∷ [], tt))), tt)
 
-  abbrev to-controls : {controls.at()} .Ghost
-  to-controls = ((tt, tt, tt, args-controls, ({cval}, (vint w8 (n - 0x50) ∷ [], (vint w8 u ∷ [], tt)))), tt)
+  asked-places : {Ctl.is_("h .control")} → ent 𝓤 (emp 𝓤) ({places.at()} .pre to-places)
+  asked-places d-is = qed W [] ∵ nothing ! $ nothing ! $ {NUMBER}{Ctl.owned("h .control","d-is")}fjoin ! $ {CLOSE}
 
-  asked-controls : {Ctl.is_("h .control")} → ent 𝓤 (emp 𝓤) ({controls.at()} .pre to-controls)
-  asked-controls d-is = qed W [] ∵ nothing ! $ nothing ! $ {owned("u","u8")}owned ! u8 (Is u8) (uint-makes 𝓤 H A W w8) (n - 0x50) _ (refl, number-fits) $ fjoin ! $ {Ctl.owned("h .control","d-is")}fjoin ! $ {CLOSE}
+  abbrev args-controls : Contents → Control × (ℕ × (ℕ × (Contents × Unit {{0}})))
+  args-controls k = (h .control, (n - 0x50, (u, (k, tt))))
+
+  abbrev to-controls : Contents → {controls.at()} .Ghost
+  to-controls k = ((tt, tt, tt, args-controls k, ({cval}, (vint w8 (n - 0x50) ∷ [], (vint w8 u ∷ [], ({Row.val("k")} ∷ [], tt))))), tt)
+
+  asked-controls : (k : Contents) → {Ctl.is_("h .control")} → {Row.is_("k")} → ent 𝓤 (emp 𝓤) ({controls.at()} .pre (to-controls k))
+  asked-controls k d-is k-is = qed W [] ∵ nothing ! $ nothing ! $ {Row.owned("k","k-is")}fjoin ! $ {owned("u","u8")}{NUMBER}{Ctl.owned("h .control","d-is")}fjoin ! $ {CLOSE}
 
 {ask_carry(carries)}
   module _ (C : Calls 𝓤 H) (Λ : Loops 𝓤 H) (fm : FmC 𝓤 H (W .laws) C) {" ".join(f"(known-{c.a} : {c.triple('C')})" for c in CS)} where

@@ -164,7 +164,7 @@ if FN=="hevrukan_reset":
     leaves(w,[0,1,2,3,4],had,"returns !","exits c _ said (lit< tt)")
     three=w.text()
     lemma("the record is stored","stored",us([3])+f"(c : Controller) → Says c 0 → {Con.is_('c').replace(Con.val('c'),'mach c')} → ","stored c said now-is",4,start,val4,three)
-    lemma("the right size: the record as after reset","wiped",us([3])+"Holds (not (not (eqb size 268))) → ","wiped t",3,start,val,two)
+    lemma("the right size: the record as after reset","wiped",us([3])+"Holds (not (not (eqb size 296))) → ","wiped t",3,start,val,two)
     lemma("from the first statement on: the size","begun","","begun",1,start,VAL,first)
     w=Walk(6); w.ctx=[]
     extra+=f"""  -- what `after_reset`'s triple binds outside, and what it asks
@@ -196,9 +196,9 @@ elif FN=="hevrukan_lines":
     calls(w,"wide","to-wide n","asked-wide n n-fits",[],lambda:[w.load(4)],"m","ℕ","u32","‵ ftrue","tt","(n, tt)","m ≡ n")
     value(w,number("u32","m")); w.to(["toks"]); w.emit("drop ! $ "); w.give(1,[])
     lands_number(w,0,"u32","m"); leaves(w,range(N),had,"returns !","exits m (lines-right h size m n t said e) (is .1)"); four=w.text()
-    lemma("the answer, wide","widened",us([3,5])+"Holds (not (not (eqb size 268))) → (n : ℕ) → n ≡ linesOf (h .control) → n < 2 ^ 8 → ","widened t n said n-fits",5,start2,val4,four)
-    lemma("the five lines","lined",us([3])+"Holds (not (not (eqb size 268))) → Is T.the-row h (mach h ∷ []) → ","lined t was",4,start2,val5,three)
-    lemma("the right size: the record is copied out","read",us([3])+"Holds (not (not (eqb size 268))) → ","read t",3,start,val,two)
+    lemma("the answer, wide","widened",us([3,5])+"Holds (not (not (eqb size 296))) → (n : ℕ) → n ≡ linesOf (h .control) → n < 2 ^ 8 → ","widened t n said n-fits",5,start2,val4,four)
+    lemma("the five lines","lined",us([3])+"Holds (not (not (eqb size 296))) → Is T.the-row h (mach h ∷ []) → ","lined t was",4,start2,val5,three)
+    lemma("the right size: the record is copied out","read",us([3])+"Holds (not (not (eqb size 296))) → ","read t",3,start,val,two)
     lemma("from the first statement on: the size","begun","","begun",1,start,VAL,first)
     w=Walk(6); w.ctx=[]; a1=asks(w,[],[Con.owned("h","was")])
     w=Walk(6); w.ctx=[]; a2=asks(w,[],[uint_owned("u8","n","n-fits")])

@@ -1,8 +1,12 @@
 //! Situations in which an easy slip would show, each as a test on a step that was taken.
 
+mod waiting;
+
 use crate::controller::bits::*;
 use crate::controller::{Answer, Controller, Fault, Locks, Pulse, Step};
 use crate::pair::Taken;
+
+pub use waiting::CASES as WAITING;
 
 const NONE: u8 = 0x10;
 
@@ -11,7 +15,7 @@ pub type Test = fn(&Taken) -> bool;
 pub const CASES: [(&str, Test); 61] = [
     (
         "held off though a later buffer carries the identifier",
-        held_off_with_another,
+        |t| matches!(t.answer, Answer::HeldOff(buffer) if carried_behind(t, buffer)),
     ),
     ("stored with a length byte above 12", |t| {
         matches!(t.answer, Answer::Stored(_)) && length_byte(t) > 12
@@ -19,12 +23,14 @@ pub const CASES: [(&str, Test); 61] = [
     ("queued with a length byte above 12", |t| {
         queues(t) && length_byte(t) > 12
     }),
-    ("stored where bytes stood behind it", |t| {
-        matches!(t.answer, Answer::Stored(buffer) if has_bytes_behind(t, buffer))
-    }),
-    ("queued where bytes stood behind it", |t| {
-        matches!(t.answer, Answer::Queued(place) if has_bytes_behind(t, place))
-    }),
+    (
+        "stored where bytes stood behind it",
+        |t| matches!(t.answer, Answer::Stored(buffer) if has_bytes_behind(t, buffer)),
+    ),
+    (
+        "queued where bytes stood behind it",
+        |t| matches!(t.answer, Answer::Queued(place) if has_bytes_behind(t, place)),
+    ),
     ("queued with acceptance mask $FF", |t| {
         queues(t) && t.before.acceptance.mask == 0xFF
     }),
@@ -212,8 +218,9 @@ fn has_bytes_behind(t: &Taken, buffer: u8) -> bool {
     t.before.contents[usize::from(buffer)][bytes.len()..] != [0; 14][bytes.len()..]
 }
 
-fn held_off_with_another(t: &Taken) -> bool {
-    let (Answer::HeldOff(buffer), Step::Frame(_, bytes)) = (t.answer, t.step) else {
+/// A receive buffer behind this one carries the frame's identifier too.
+fn carried_behind(t: &Taken, buffer: u8) -> bool {
+    let Step::Frame(_, bytes) = t.step else {
         return false;
     };
     let carries = |n: usize| t.before.identifiers[n] == bytes[0] && t.before.receive >> n & 1 == 1;
@@ -222,7 +229,10 @@ fn held_off_with_another(t: &Taken) -> bool {
 
 /// A frame that has a buffer, which may be locked.
 fn finds(t: &Taken) -> bool {
-    matches!(t.answer, Answer::Stored(_) | Answer::HeldOff(_))
+    matches!(
+        t.answer,
+        Answer::Stored(_) | Answer::Waiting(_) | Answer::HeldOff(_)
+    )
 }
 
 /// A frame whose buffer is looked for.

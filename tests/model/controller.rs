@@ -91,6 +91,8 @@ pub enum Answer {
     Read(u8),
     Stored(u8),
     Queued(u8),
+    /// The frame waits for the buffer, which is locked (W5).
+    Waiting(u8),
     HeldOff(u8),
     /// How many bytes of the room the sent frame fills.
     Sent(u8),
@@ -157,9 +159,39 @@ impl Locks {
     }
 }
 
+/// A waiting place (W5).
+#[derive(Clone, Copy, PartialEq, Eq, Debug)]
+pub struct Place {
+    /// The buffer that its frame waits for; `NONE` in a free place.
+    pub buffer: u8,
+    /// When its last frame came: the larger number came later. 0 before the first.
+    pub arrival: u32,
+    /// Its last frame as it is stored, of which nothing shows once the place is free.
+    pub contents: [u8; CONTENTS],
+}
+
+impl Place {
+    const FREE: Place = Place {
+        buffer: NONE,
+        arrival: 0,
+        contents: [0; CONTENTS],
+    };
+
+    fn is_free(&self) -> bool {
+        self.buffer == NONE
+    }
+
+    /// As if no frame had come.
+    fn empty(&mut self) {
+        self.buffer = NONE;
+        self.arrival = 0;
+    }
+}
+
 #[derive(Clone, Copy, PartialEq, Eq, Debug)]
 pub struct Controller {
     pub contents: [[u8; CONTENTS]; BUFFERS],
+    pub places: [Place; 2],
     /// The identifiers once more, side by side, so that all sixteen are compared at once.
     pub identifiers: [u8; BUFFERS],
     /// CFG 1.
@@ -180,6 +212,9 @@ pub struct Controller {
     pub fifo_oldest: u8,
     pub fifo_count: u8,
     pub initialization: bool,
+    /// SLPRQ, which stands without SLPAK while a frame waits.
+    pub sleep_requested: bool,
+    /// SLPAK.
     pub asleep: bool,
     pub synchronized: bool,
     /// A SYNLIF clear that waits for the next sync.
@@ -236,10 +271,20 @@ fn data_length(length: u8) -> u8 {
     (length & 0x0F).min(DATA)
 }
 
+/// A frame as it is stored. Nothing of an older one is left: data bytes past the stored length are 0.
+fn image(identifier: u8, data: &[u8]) -> [u8; CONTENTS] {
+    let mut contents = [0; CONTENTS];
+    contents[0] = identifier;
+    contents[1] = data.len() as u8;
+    contents[2..2 + data.len()].copy_from_slice(data);
+    contents
+}
+
 impl Controller {
     pub fn new() -> Controller {
         Controller {
             contents: [[0; CONTENTS]; BUFFERS],
+            places: [Place::FREE; 2],
             identifiers: [0; BUFFERS],
             transmit: 0,
             receive: !0,
@@ -254,6 +299,7 @@ impl Controller {
             fifo_oldest: 0,
             fifo_count: 0,
             initialization: true,
+            sleep_requested: false,
             asleep: false,
             synchronized: false,
             clear_remembered: false,
@@ -284,21 +330,37 @@ impl Controller {
     /// The same where the step has just been read: the two matches become one.
     #[inline(always)]
     pub fn step_inline(&mut self, step: &Step, room: &mut [u8]) -> Outcome {
-        let answer = match *step {
+        let outcome = match *step {
             Step::Reset => {
                 *self = Controller::new();
-                Answer::Ok
+                Answer::Ok.into()
             }
-            Step::Read(address) => self.read(address),
-            Step::Write(address, value) => self.write(address, value),
-            Step::Sync(pulse) => self.sync(pulse),
-            Step::SyncDue => self.sync_due(),
-            Step::Slot(slot) => self.slot(slot, room),
-            Step::Frame(good, bytes) => return self.frame(good, bytes),
-            Step::Fault(fault) => self.fault(fault),
-            Step::Timeout => self.timeout(),
+            Step::Read(address) => self.read(address).into(),
+            Step::Write(address, value) => self.write(address, value).into(),
+            Step::Sync(pulse) => self.sync(pulse).into(),
+            Step::SyncDue => self.sync_due().into(),
+            Step::Slot(slot) => self.slot(slot, room).into(),
+            Step::Frame(good, bytes) => self.frame(good, bytes),
+            Step::Fault(fault) => self.fault(fault).into(),
+            Step::Timeout => self.timeout().into(),
         };
-        answer.into()
+        if self.sleep_requested {
+            self.cancel_sleep(step, outcome.answer);
+        }
+        outcome
+    }
+
+    /// Any sync, frame or fault that isn't refused or ignored cancels SLPRQ (W5); a master's pulse is a sync that it
+    /// receives. A module that was asleep has woken by it: only SLPRQ alone is left to cancel here.
+    #[cold]
+    fn cancel_sleep(&mut self, step: &Step, answer: Answer) {
+        let heard = matches!(
+            step,
+            Step::Sync(_) | Step::SyncDue | Step::Frame(..) | Step::Fault(_)
+        );
+        if heard && !matches!(answer, Refused(_) | Ignored) {
+            self.sleep_requested = false;
+        }
     }
 
     /// The five interrupt lines: 4 FIFO, 3 receive, 2 sync, 1 XSYNC, 0 general.
@@ -342,7 +404,8 @@ impl Controller {
             0x00 => {
                 self.control
                     | when(self.initialization, INITRQ | INITAK)
-                    | when(self.asleep, SLPRQ | SLPAK)
+                    | when(self.sleep_requested, SLPRQ)
+                    | when(self.asleep, SLPAK)
             }
             0x01 => self.fsiz,
             0x02..=0x04 => self.timing[address as usize - 0x02],
@@ -451,13 +514,16 @@ impl Controller {
                 self.initialization = false;
                 self.iflg |= self.transmit;
             }
-            (false, false) if value & SLPRQ == 0 => {
-                if self.asleep {
-                    self.wake();
-                }
+            (false, false) if value & SLPRQ == 0 => match self.asleep {
+                true => self.wake(),
+                // No waking: synchronization and arming stay.
+                false => self.sleep_requested = false,
+            },
+            (false, false) if self.bfen != 0 => {
+                self.sleep_requested = true;
+                self.asleep = self.none_waits();
             }
-            (false, false) => self.asleep |= self.bfen != 0,
-            (true, true) => {}
+            (false, false) | (true, true) => {}
         }
         Answer::Ok
     }
@@ -479,14 +545,20 @@ impl Controller {
         self.abtak = 0;
         self.clear_remembered = false;
         self.wake();
+        self.places.iter_mut().for_each(Place::empty);
         self.fifo_oldest = 0;
         self.fifo_count = 0;
         self.locked &= !self.fifo();
     }
 
     fn wake(&mut self) {
+        self.sleep_requested = false;
         self.asleep = false;
         self.lose_synchronization();
+    }
+
+    fn none_waits(&self) -> bool {
+        self.places.iter().all(Place::is_free)
     }
 
     fn lose_synchronization(&mut self) {
@@ -607,7 +679,26 @@ impl Controller {
             self.transmit_locks.release(buffer);
         } else {
             self.receive_locks.release(buffer);
+            self.store_waiting(buffer);
         }
+    }
+
+    /// Stores the frames that wait for a buffer which stops being locked, in order of arrival.
+    fn store_waiting(&mut self, buffer: u8) {
+        if self.places.iter().all(|place| place.buffer != buffer) {
+            return;
+        }
+        let mut places = [0, 1];
+        places.sort_by_key(|&place: &usize| self.places[place].arrival);
+        for place in places {
+            if self.places[place].buffer == buffer {
+                self.contents[buffer as usize] = self.places[place].contents;
+                self.iflg |= bit(buffer);
+                self.places[place].buffer = NONE;
+            }
+        }
+        // Whatever BFEN is by now.
+        self.asleep = self.sleep_requested && self.none_waits();
     }
 
     /// The place `n` after the oldest entry's, 0 following FSIZ - 1; `n` is at most FSIZ.
@@ -742,11 +833,25 @@ impl Controller {
 
     fn deliver(&mut self, buffer: u8, identifier: u8, data: &[u8]) -> Answer {
         if self.locked & bit(buffer) != 0 {
-            return Answer::HeldOff(buffer);
+            return self.wait(buffer, identifier, data);
         }
-        self.store(buffer, identifier, data);
+        self.contents[buffer as usize] = image(identifier, data);
         self.iflg |= bit(buffer);
         Answer::Stored(buffer)
+    }
+
+    /// A frame whose buffer is locked takes a free place; both are there for all buffers.
+    fn wait(&mut self, buffer: u8, identifier: u8, data: &[u8]) -> Answer {
+        let newest = self.places[0].arrival.max(self.places[1].arrival);
+        let Some(place) = self.places.iter_mut().find(|place| place.is_free()) else {
+            return Answer::HeldOff(buffer);
+        };
+        *place = Place {
+            buffer,
+            arrival: newest + 1,
+            contents: image(identifier, data),
+        };
+        Answer::Waiting(buffer)
     }
 
     fn queue(&mut self, identifier: u8, data: &[u8]) -> Answer {
@@ -762,18 +867,9 @@ impl Controller {
         }
         let place = self.fifo_place(self.fifo_count);
         self.identifiers[place as usize] = identifier;
-        self.store(place, identifier, data);
+        self.contents[place as usize] = image(identifier, data);
         self.fifo_count += 1;
         Answer::Queued(place)
-    }
-
-    /// Nothing of an older frame is left: data bytes past the stored length are 0.
-    fn store(&mut self, buffer: u8, identifier: u8, data: &[u8]) {
-        let mut contents = [0; CONTENTS];
-        contents[0] = identifier;
-        contents[1] = data.len() as u8;
-        contents[2..2 + data.len()].copy_from_slice(data);
-        self.contents[buffer as usize] = contents;
     }
 
     fn slot(&mut self, slot: u8, room: &mut [u8]) -> Answer {

@@ -1,7 +1,7 @@
 //! Counts of what the steps of a run reached: a run that never reached a case says nothing of it.
 
 use crate::call::{Call, FRAME, ROOM};
-use crate::cases::{can_be_written, looks_up, CASES};
+use crate::cases::{can_be_written, looks_up, CASES, WAITING};
 use crate::controller::{Answer, Step, BUFFERS};
 use crate::library::{number, word, SIZE, UNUSED, WORDS};
 use crate::pair::Taken;
@@ -22,6 +22,7 @@ pub struct Counts {
     /// Frames that were looked up, by the dedicated receive buffers examined.
     looked: [u64; BUFFERS + 1],
     cases: [u64; CASES.len()],
+    waiting: [u64; WAITING.len()],
     unknown: u64,
     wrong_size: u64,
 }
@@ -38,6 +39,7 @@ impl Counts {
             rooms: [0; ROOM + 1],
             looked: [0; BUFFERS + 1],
             cases: [0; CASES.len()],
+            waiting: [0; WAITING.len()],
             unknown: 0,
             wrong_size: 0,
         }
@@ -68,7 +70,8 @@ impl Counts {
         if looks_up(taken) {
             self.looked[taken.looked as usize] += 1;
         }
-        for (count, (_, test)) in self.cases.iter_mut().zip(CASES) {
+        let counts = self.cases.iter_mut().chain(&mut self.waiting);
+        for (count, (_, test)) in counts.zip(CASES.iter().chain(&WAITING)) {
             *count += u64::from(test(taken));
         }
     }
@@ -101,6 +104,7 @@ impl Counts {
             ["unknown", "wrong size"][n].to_string()
         });
         group("cases", &self.cases, &|n| CASES[n].0.to_string());
+        group("waiting", &self.waiting, &|n| WAITING[n].0.to_string());
         all
     }
 
@@ -117,7 +121,10 @@ impl Counts {
                 println!("{name}: {}, each at least {least} times", group.len());
                 continue;
             }
-            let separator = if name == "cases" { "\n  " } else { " " };
+            let separator = match name {
+                "cases" | "waiting" => "\n  ",
+                _ => " ",
+            };
             print!("{name}:");
             for (_, label, count) in group {
                 print!("{separator}{label} {count}");

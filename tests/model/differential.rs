@@ -15,7 +15,7 @@ mod text;
 use call::{Call, FRAME, ROOM};
 use controller::Step;
 use counts::Counts;
-use library::{FIELDS, SIZE};
+use library::{OLDER, SIZE};
 use make::{Kind, Random};
 use pair::{Difference, Pair};
 use std::process::ExitCode;
@@ -76,9 +76,8 @@ impl Session<'_> {
         let numbers = &mut call.numbers;
         match (self.random.below(8), step) {
             (0, _) => {
-                call.size =
-                    self.random
-                        .of(&[0, 1, FIELDS, SIZE - 1, SIZE + 1, 2 * SIZE, usize::MAX])
+                let others = [0, 1, SIZE - 1, SIZE + 1, 2 * SIZE, usize::MAX];
+                call.size = self.random.of(&[&OLDER[..], &others].concat());
             }
             (1, _) => numbers.kind = self.random.of(&[9, 10, 255, 256, 0x102, u32::MAX]),
             (_, Step::Frame(..)) => call.frame_size = self.random.below(FRAME + 1),

@@ -48,7 +48,6 @@ record!(Mode {
     init: u8,
     master: u8,
     alarm: u8,
-    slpak: u8,
     slprq: u8,
     wpulse: u8,
     sswai: u8,
@@ -85,6 +84,11 @@ record!(Locks {
     holder: u8,
     contender: u8
 });
+record!(Places {
+    first: u8,
+    second: u8,
+    swapped: u8
+});
 record!(Buffers {
     cfg: u16,
     iena: u16,
@@ -99,17 +103,19 @@ record!(Control {
     fifo: Fifo,
     receive: Locks,
     transmit: Locks,
+    places: Places,
     buffers: Buffers
 });
 record!(Record {
     control: Control,
-    rows: [[u8; CONTENTS]; BUFFERS]
+    rows: [[u8; CONTENTS]; BUFFERS],
+    held: [[u8; CONTENTS]; 2]
 });
 
-/// The bytes that the fields take. Before W8 it was all of a record.
-pub const FIELDS: usize = size_of::<Record>();
-/// The bytes of a record: two behind the fields are nobody's.
-pub const SIZE: usize = FIELDS + 2;
+/// The bytes of a record.
+pub const SIZE: usize = size_of::<Record>();
+/// Those of the headers before: the first, and the one with the buffers examined. Their programs are told so.
+pub const OLDER: [usize; 2] = [266, 268];
 
 extern "C" {
     fn hevrukan_size() -> usize;
@@ -133,9 +139,9 @@ pub const UNUSED: &str = "unused";
 
 #[rustfmt::skip]
 /// The answers' words in the order of their numbers.
-pub const WORDS: [&str; 15] = [
+pub const WORDS: [&str; 16] = [
     "ok", "read", "stored", "queued", "heldoff", UNUSED, "sent", "pulse",
-    "refused", "overrun", "unmatched", "badframe", "ignored", "woke", "notsent",
+    "refused", "overrun", "unmatched", "badframe", "ignored", "woke", "notsent", "waiting",
 ];
 
 /// Answers outside document 01.
@@ -200,6 +206,7 @@ pub fn number(outcome: Outcome) -> u32 {
         Answer::Ignored => (12, 0),
         Answer::Woke => (13, 0),
         Answer::NotSent => (14, 0),
+        Answer::Waiting(buffer) => (15, buffer),
     };
     65_536 * u32::from(outcome.looked) + 256 * word + u32::from(detail)
 }
@@ -230,7 +237,7 @@ pub fn size() -> usize {
     unsafe { hevrukan_size() }
 }
 
-/// Bytes before and after a record that nobody may write; nor may the two behind its fields be written.
+/// Bytes before and after a record that nobody may write.
 const GUARD: usize = 16;
 const GUARDED: u8 = 0xC3;
 
@@ -244,7 +251,7 @@ impl Library {
     /// A record of such bytes, not reset yet.
     pub fn holding(byte: u8) -> Library {
         let mut bytes = [GUARDED; GUARD + SIZE + GUARD];
-        bytes[GUARD..GUARD + FIELDS].fill(byte);
+        bytes[GUARD..GUARD + SIZE].fill(byte);
         Library { bytes }
     }
 
@@ -253,7 +260,7 @@ impl Library {
     }
 
     pub fn guarded(&self) -> bool {
-        let (before, after) = (&self.bytes[..GUARD], &self.bytes[GUARD + FIELDS..]);
+        let (before, after) = (&self.bytes[..GUARD], &self.bytes[GUARD + SIZE..]);
         before.iter().chain(after).all(|&byte| byte == GUARDED)
     }
 

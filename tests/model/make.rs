@@ -255,7 +255,7 @@ impl Maker {
     }
 
     fn traffic(&mut self) {
-        match self.random.below(200) {
+        match self.random.below(203) {
             0..=19 => self.sync(),
             20..=69 => self.frame(),
             70..=99 => self.slot(),
@@ -292,7 +292,8 @@ impl Maker {
                 let buffer = self.random.below(16) as u8;
                 self.write_control(buffer, ABTRQ);
             }
-            _ => self.interrupted(),
+            199 => self.interrupted(),
+            _ => self.wait(),
         }
     }
 
@@ -446,6 +447,75 @@ impl Maker {
         match self.held.pop() {
             Some(buffer) => self.write_control(buffer, 0),
             None => self.read(0x12),
+        }
+    }
+
+    /// Frames wait for two locked receive buffers, one of which is mostly released first. Sleep is requested meanwhile:
+    /// a release may grant it, and most of what the bus shows cancels it.
+    fn wait(&mut self) {
+        let one = self.some_buffer(self.fsiz, self.cfg_0);
+        let other = self.some_buffer(self.fsiz, self.cfg_0);
+        self.request();
+        self.sync();
+        self.write_control(one, LOCK);
+        self.write_control(other, LOCK);
+        if !self.random.one_in(4) {
+            self.put_frame(true, self.identifier[one as usize]);
+            self.put_frame(true, self.identifier[other as usize]);
+            if self.random.one_in(3) {
+                self.request_sleep();
+            }
+            self.write_control(one, 0);
+        }
+        for _ in 0..2 + self.random.below(16) {
+            let buffer = self.random.of(&[one, other]);
+            match self.random.below(24) {
+                0..=6 => self.put_frame(true, self.identifier[buffer as usize]),
+                7..=9 => self.write_control(buffer, LOCK),
+                10..=12 => {
+                    let read = self.random.of(&[0, IFLG]);
+                    self.write_control(buffer, read);
+                }
+                13..=16 => self.request_sleep(),
+                17 | 18 => self.slot(),
+                19 => {
+                    let step = self.random.of(&[Step::SyncDue, Step::Timeout]);
+                    self.put(step);
+                }
+                20 => self.read(0x00),
+                21 => self.write(0x10, BFEN),
+                _ => self.stir(),
+            }
+        }
+        for buffer in [one, other] {
+            self.write_control(buffer, IFLG);
+        }
+        // Awake and out of initialization again, where it may be by now.
+        let master = self.random.of(&[0, MASTER]);
+        self.write(0x00, master);
+        self.write(0x10, BFEN);
+        self.sync();
+    }
+
+    /// Now and then BFEN goes to 0 behind it, which leaves the request.
+    fn request_sleep(&mut self) {
+        self.write(0x00, SLPRQ);
+        if self.random.one_in(3) {
+            self.write(0x10, 0);
+            self.write(0x00, SLPRQ);
+        }
+    }
+
+    /// Something after which a request for sleep doesn't stand, unless it is ignored.
+    fn stir(&mut self) {
+        match self.random.below(8) {
+            0 => self.write(0x00, 0),
+            1 | 2 => self.sync(),
+            3 => self.put(Step::Fault(Fault::Illegal)),
+            4 => self.put(Step::Fault(Fault::Lost)),
+            5 => self.put(Step::Frame(false, &[1, 0])),
+            6 => self.frame(),
+            _ => self.write(0x00, INITRQ | SLPRQ),
         }
     }
 

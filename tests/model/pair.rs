@@ -43,6 +43,7 @@ fn record_of(model: &Controller) -> Record {
         contender: locks.contender,
     };
     let fifo = !model.transmit & !model.receive;
+    let [first, second] = model.places;
     let [tcr1, tcr2, tcr3] = model.timing;
     Record {
         control: Control {
@@ -50,8 +51,7 @@ fn record_of(model: &Controller) -> Record {
                 init: u8::from(model.initialization),
                 master: control(MASTER),
                 alarm: control(ALARM),
-                slpak: u8::from(model.asleep),
-                slprq: u8::from(model.asleep),
+                slprq: u8::from(model.sleep_requested),
                 wpulse: control(WPULSE),
                 sswai: control(SSWAI),
                 synced: u8::from(model.synchronized),
@@ -81,6 +81,11 @@ fn record_of(model: &Controller) -> Record {
             },
             receive: locks(model.receive_locks),
             transmit: locks(model.transmit_locks),
+            places: Places {
+                first: first.buffer,
+                second: second.buffer,
+                swapped: u8::from(first.arrival > second.arrival),
+            },
             buffers: Buffers {
                 cfg: model.transmit,
                 iena: model.iena,
@@ -90,6 +95,7 @@ fn record_of(model: &Controller) -> Record {
             },
         },
         rows: model.contents,
+        held: [first.contents, second.contents],
     }
 }
 
@@ -115,6 +121,12 @@ fn locked(record: &Record) -> u16 {
     four.iter()
         .chain(&[entry])
         .fold(0, |mask, &buffer| mask | (1u32 << buffer) as u16)
+}
+
+/// SLPAK, as a record says it.
+fn asleep(record: &Record) -> bool {
+    let Control { mode, places, .. } = record.control;
+    mode.slprq != 0 && places.first == BUFFERS as u8 && places.second == BUFFERS as u8
 }
 
 /// The first field in which two records differ.
@@ -219,7 +231,8 @@ impl Pair {
             u32::from(self.model.lines()),
         )?;
         same("the bytes about the record", self.library.guarded(), true)?;
-        // What the model keeps twice.
+        // What the model keeps beside the record's fields.
+        same("SLPAK", asleep(&record), self.model.asleep)?;
         same("the locked buffers", locked(&record), self.model.locked)?;
         let Control {
             config, buffers, ..

@@ -37,6 +37,7 @@ fn word_of(answer: Option<Answer>) -> &'static Word {
         Some(Answer::Read(_)) => const { &word(b"\tread\t") },
         Some(Answer::Stored(_)) => const { &word(b"\tstored\t") },
         Some(Answer::Queued(_)) => const { &word(b"\tqueued\t") },
+        Some(Answer::Waiting(_)) => const { &word(b"\twaiting\t") },
         Some(Answer::HeldOff(_)) => const { &word(b"\theldoff\t") },
         Some(Answer::Sent(_)) => const { &word(b"\tsent\t") },
         Some(Answer::Pulse(_)) => const { &word(b"\tpulse\t") },
@@ -140,6 +141,7 @@ impl Row<'_> {
                 Answer::Read(detail)
                 | Answer::Stored(detail)
                 | Answer::Queued(detail)
+                | Answer::Waiting(detail)
                 | Answer::HeldOff(detail)
                 | Answer::Refused(detail),
             ) => self.put(PAIRS[detail as usize], 2),

@@ -1,5 +1,7 @@
-//! What no recording can show: the room of a sent frame; and the count of buffers examined, by a plain walk over
-//! them. Run by tests/compare.
+//! What no recording can show: the room of a sent frame; and by plainer means the count of buffers examined and the
+//! frames that wait. Run by tests/compare.
+
+mod waiting;
 
 use crate::controller::*;
 use crate::make::{make, Kind};
@@ -137,7 +139,7 @@ fn is_looked_up(answer: Answer) -> bool {
     use Answer::*;
     matches!(
         answer,
-        Stored(_) | HeldOff(_) | Queued(_) | Overrun | Unmatched
+        Stored(_) | Waiting(_) | HeldOff(_) | Queued(_) | Overrun | Unmatched
     )
 }
 
@@ -156,11 +158,12 @@ fn the_count_of_each_layout() {
                     Outcome { answer, looked }
                 );
                 run(&mut controller, &format!("W 5{n:X} 10"));
-                let answer = Answer::HeldOff(n);
-                assert_eq!(
-                    frame(&mut controller, identifier),
-                    Outcome { answer, looked }
-                );
+                for answer in [Answer::Waiting(n), Answer::Waiting(n), Answer::HeldOff(n)] {
+                    assert_eq!(
+                        frame(&mut controller, identifier),
+                        Outcome { answer, looked }
+                    );
+                }
                 run(&mut controller, &format!("W 5{n:X} 00"));
             }
             // No buffer carries $77: all are examined, whatever becomes of the frame.
@@ -183,8 +186,9 @@ fn the_count_ends_at_the_lowest_that_carries_the_identifier() {
     let mut controller = laid_out(2, 16);
     run(&mut controller, "W 00 80; W 59 10; W 30 45; W 59 00");
     run(&mut controller, "W 00 00; S N; W 55 10");
-    let answer = Answer::HeldOff(5);
-    assert_eq!(frame(&mut controller, 0x45), Outcome { answer, looked: 4 });
+    for answer in [Answer::Waiting(5), Answer::Waiting(5), Answer::HeldOff(5)] {
+        assert_eq!(frame(&mut controller, 0x45), Outcome { answer, looked: 4 });
+    }
     // The FIFO's buffer carries $77 then, and isn't examined.
     let mut controller = laid_out(1, 3);
     assert_eq!(frame(&mut controller, 0x77).answer, Answer::Queued(0));
@@ -192,15 +196,13 @@ fn the_count_ends_at_the_lowest_that_carries_the_identifier() {
     assert_eq!(frame(&mut controller, 0x77), Outcome { answer, looked: 2 });
 }
 
-#[test]
-fn the_count_is_a_walk_over_the_buffers_and_0_for_all_else() {
-    let mut looked_up = [0; BUFFERS + 1];
-    for (kind, seed) in [Kind::Mixed, Kind::Wild, Kind::Damaged, Kind::Data]
-        .into_iter()
-        .flat_map(|kind| (1..=40).map(move |seed| (kind, seed)))
-    {
+/// Runs random recordings, each from reset, and shows every step: its session, the state before and after it.
+fn on_random_steps(mut look: impl FnMut(usize, &Step, &Controller, &Controller, Outcome)) {
+    let kinds = [Kind::Mixed, Kind::Wild, Kind::Damaged, Kind::Data];
+    for session in 0..160 {
         let mut text = Vec::new();
-        make(kind, seed, 3_000, &mut text).expect("a vector takes all");
+        let (kind, seed) = (kinds[session / 40], session % 40 + 1);
+        make(kind, seed as u64, 3_000, &mut text).expect("a vector takes all");
         let mut controller = Controller::new();
         let mut bytes = [0; crate::text::FRAME];
         for line in text.split(|&byte| byte == b'\n') {
@@ -208,16 +210,24 @@ fn the_count_is_a_walk_over_the_buffers_and_0_for_all_else() {
                 continue;
             };
             let before = controller;
-            let Outcome { answer, looked } = controller.step(&step, &mut [0; CONTENTS]);
-            match step {
-                Step::Frame(_, frame) if is_looked_up(answer) => {
-                    assert_eq!(looked, walked(&before, frame[0]));
-                    looked_up[usize::from(looked)] += 1;
-                }
-                _ => assert_eq!(looked, 0, "{step:?}: {answer:?}"),
-            }
+            let outcome = controller.step(&step, &mut [0; CONTENTS]);
+            look(session, &step, &before, &controller, outcome);
         }
     }
+}
+
+#[test]
+fn the_count_is_a_walk_over_the_buffers_and_0_for_all_else() {
+    let mut looked_up = [0; BUFFERS + 1];
+    on_random_steps(
+        |_, step, before, _, Outcome { answer, looked }| match step {
+            Step::Frame(_, frame) if is_looked_up(answer) => {
+                assert_eq!(looked, walked(before, frame[0]));
+                looked_up[usize::from(looked)] += 1;
+            }
+            _ => assert_eq!(looked, 0, "{step:?}: {answer:?}"),
+        },
+    );
     // Each count has come up, or the test says nothing of it.
     assert!(!looked_up.contains(&0), "{looked_up:?}");
 }

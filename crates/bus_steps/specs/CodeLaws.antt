@@ -14,6 +14,8 @@ use Rattle.rules.specs.declared.Control.{Control}
 use Rattle.rules.specs.Plan.{Plan, plain}
 use Rattle.rules.specs.Rules.{onBus}
 use Rattle.rules.specs.Kinds.{isFullTransmit, isLocked}
+use Rattle.rules.specs.Waiting.{asleep}
+use Rattle.rules.specs.Modes.{cancel}
 use Rattle.rules.specs.Bus.{arms, synced, dueKind, dueSync}
 use Rattle.bus_steps.specs.Code.{isNamed, isReady, armsOf, syncedOf, dueOf}
 
@@ -30,15 +32,20 @@ arms-ready c hs m n e h =
     ap (λ (t : Bool). isFullTransmit c n && not (isLocked c n) && t) (ap (λ (x : ℕ). bitOf x n) e ∙ bit-mask (isReady c hs) n h)
     ∙ twice (isFullTransmit c n) (not (isLocked c n)) (isNamed hs n)
 
-pub synced-ready : (k : SyncKind) (c : Control) (hs : List Head) (m : ℕ) → m ≡ maskOf (isReady c hs) → syncedOf k c m ≡ synced k c hs
-unfolding syncedOf synced
-synced-ready k c hs m e = simp (same-mask (armsOf c m) (arms c hs) (λ n h. arms-ready c hs m n e h))
+-- SLPRQ is in no arming
+arms-cancel : (c : Control) (hs : List Head) (n : ℕ) → arms c hs n ≡ arms (cancel c) hs n
+unfolding arms isLocked cancel
+arms-cancel c hs n = refl
+
+pub synced-ready : (k : SyncKind) (c : Control) (hs : List Head) (m : ℕ) → m ≡ maskOf (isReady c hs) → syncedOf k c m ≡ synced k (cancel c) hs
+unfolding syncedOf synced cancel
+synced-ready k c hs m e = simp (same-mask (armsOf c m) (arms (cancel c) hs) (λ n h. arms-ready c hs m n e h ∙ arms-cancel c hs n))
 
 pub due-ready : (c : Control) (hs : List Head) (m : ℕ) → m ≡ maskOf (isReady c hs) → dueOf c m ≡ dueSync c hs
 unfolding dueOf dueSync
 due-ready c hs m e = simp (synced-ready (dueKind c) c hs m e)
 
 -- out of initialization and awake, a bus step is the plan given last
-pub bus-awake : (c : Control) (p q : Plan) → c .mode .init ≡ false → c .mode .slpak ≡ false → onBus c p q ≡ q
+pub bus-awake : (c : Control) (p q : Plan) → c .mode .init ≡ false → asleep c ≡ false → onBus c p q ≡ q
 unfolding onBus
-bus-awake c p q i s = pick-false (c .mode .init) (plain c Ignored) (pick (c .mode .slpak) p q) i ∙ pick-false (c .mode .slpak) p q s
+bus-awake c p q i s = pick-false (c .mode .init) (plain c Ignored) (pick (asleep c) p q) i ∙ pick-false (asleep c) p q s

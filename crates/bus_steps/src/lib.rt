@@ -6,6 +6,7 @@ mod syncs;
 
 ghost use mathlib.Core.Path.{_≡_};
 ghost use Rattle.rules.specs.Plan.{plain};
+ghost use Rattle.rules.specs.Modes.{cancel};
 ghost use Rattle.rules.specs.Bus.{timedOut, faulted, judged, slotFor};
 ghost use Rattle.rules.specs.Rules.{wakes, sleepsOn};
 ghost use Rattle.bus_steps.specs.Code.{rulingOf, syncedOf, dueOf};
@@ -18,12 +19,14 @@ use crate::slots::slot_for;
 use crate::syncs::due_kind;
 use crate::syncs::synced;
 use crate::syncs::timed_out;
+use modes::cancel;
 use rules::Answer;
 use rules::Control;
 use rules::Fault;
 use rules::Ruling;
 use rules::SyncKind;
 use rules::Verdict;
+use waiting::asleep;
 
 // The next state with an answer alone: no frame is stored or sent.
 pub(crate) fn ruling(next: Control, answer: Answer) -> Ruling
@@ -42,7 +45,7 @@ pub fn on_frame(c: Control, good: bool, i: u8, n: u8) -> Ruling
     if c.mode.init {
         return ruling(c, Answer::Ignored);
     }
-    if c.mode.slpak {
+    if asleep(c) {
         return ruling(woken(c), Answer::Woke);
     }
     let o = judged(c, good, i, n);
@@ -60,7 +63,7 @@ pub fn on_slot(c: Control, i: u8, n: u8) -> Ruling
     if c.mode.init {
         return ruling(c, Answer::Ignored);
     }
-    if c.mode.slpak {
+    if asleep(c) {
         return ruling(c, Answer::Ignored);
     }
     slot_for(c, i, n)
@@ -73,7 +76,7 @@ pub fn on_sync(c: Control, k: SyncKind, m: u16) -> Ruling
     if c.mode.init {
         return ruling(c, Answer::Ignored);
     }
-    if c.mode.slpak {
+    if asleep(c) {
         return ruling(woken(c), Answer::Woke);
     }
     ruling(synced(c, k, m), Answer::Ok)
@@ -86,7 +89,7 @@ pub fn on_due(c: Control, m: u16) -> Ruling
     if c.mode.init {
         return ruling(c, Answer::Ignored);
     }
-    if c.mode.slpak {
+    if asleep(c) {
         return ruling(c, Answer::Ignored);
     }
     if !c.mode.master {
@@ -97,15 +100,15 @@ pub fn on_due(c: Control, m: u16) -> Ruling
 }
 
 pub fn on_fault(c: Control, k: Fault) -> Ruling
-    ensures { λ r. ⌜ r ≡ rulingOf (wakes c (plain (faulted k c) Ok)) ⌝ }
+    ensures { λ r. ⌜ r ≡ rulingOf (wakes c (plain (faulted k (cancel c)) Ok)) ⌝ }
 {
     if c.mode.init {
         return ruling(c, Answer::Ignored);
     }
-    if c.mode.slpak {
+    if asleep(c) {
         return ruling(woken(c), Answer::Woke);
     }
-    ruling(faulted(c, k), Answer::Ok)
+    ruling(faulted(cancel(c), k), Answer::Ok)
 }
 
 // The alarm timeout.
@@ -115,7 +118,7 @@ pub fn on_timeout(c: Control) -> Ruling
     if c.mode.init {
         return ruling(c, Answer::Ignored);
     }
-    if c.mode.slpak {
+    if asleep(c) {
         return ruling(c, Answer::Ignored);
     }
     ruling(timed_out(c), Answer::Ok)

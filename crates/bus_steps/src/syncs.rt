@@ -16,7 +16,7 @@ fn arming(c: Control, m: u16) -> u16
     b.cfg & !b.iflg & !locked_mask(c) & m
 }
 
-// A sync: synchronized, a new cycle, its buffers armed.
+// A sync: synchronized, a new cycle, its buffers armed, and SLPRQ cancelled.
 pub(crate) fn synced(c: Control, k: SyncKind, m: u16) -> Control
     ensures { λ r. ⌜ r ≡ syncedOf k c m ⌝ }
 {
@@ -25,6 +25,7 @@ pub(crate) fn synced(c: Control, k: SyncKind, m: u16) -> Control
     let events = sync_events(f, k);
     let armed = arming(c, m);
     next.events = events;
+    next.mode.slprq = false;
     next.mode.synced = true;
     next.mode.last = 0;
     next.buffers.armed = armed;

@@ -22,7 +22,7 @@ use Rattle.rules.specs.declared.Ruling.{Ruling}
 use Rattle.rules.specs.declared.Verdict.{Verdict}
 use Rattle.rules.specs.declared.Verdict.the-variants.{Say, Store, Send}
 use Rattle.controller.specs.declared.Controller.{Controller}
-use Rattle.controller.specs.Carry.{heads, rowAt, moveAll, carry}
+use Rattle.controller.specs.Carry.{heads, rowAt, moveAll, holdAll, carry}
 use Rattle.controller.specs.Session.{stepOf}
 use Rattle.controller.specs.Calls.{doneOf}
 use Rattle.controller.specs.Code.{answered, unlooked, toldOf, changed, slotRuling, rowIndex, bytesAt, rowBytes, slotChange, roomBy, roomSent}
@@ -73,7 +73,7 @@ frame-row rows n l = by-test (ltb n 16) (λ t. same (bytes-in n (rowAt rows n) (
 
 sent-room : (rows : List Contents) (room : List ℕ) (v : Verdict) → length rows ≡ 16 → 14 ≤ length room → roomSent rows room v ≡ roomBy rows room v
 sent-room rows room (Say a) l h = refl
-sent-room rows room (Store n a) l h = refl
+sent-room rows room (Store n k a) l h = refl
 sent-room rows room (Send n) l h = room-filled (record { bytes = rowBytes rows n }) room h ∙ ap (λ (f : List ℕ). fillRoom f room) (frame-row rows n l)
 
 pub slot-sends : (c : Controller) → length (c .rows) ≡ 16 → (i : ℕ) (room : List ℕ) → roomSent (c .rows) room (slotRuling c i (length room) .verdict) ≡ stepOf c (slot i room) .room
@@ -94,12 +94,12 @@ slot-sends c sixteen i room = by-test (ltb (length room) 14) small large ∙ slo
 
 module _ (c : Controller) (sixteen : length (c .rows) ≡ 16) (i : ℕ) (room : List ℕ) where
   slot-answers : (row : Contents) (p : Plan) → SlotPlan p → row ≡ rowAt (c .rows) (rowIndex (rulingOf p .verdict)) →
-      changed c (slotChange (rulingOf p) row) ≡ toldOf (carry (slot i room) (c .rows) p)
-  unfolding carry moveAll slotChange
+      changed c (slotChange (rulingOf p) row) ≡ toldOf (carry (slot i room) (c .rows) (c .held) p)
+  unfolding carry moveAll holdAll slotChange
   slot-answers row p (says d a u) e = says-only c d (unlooked a) ∙ unlooked-told _ a u
   slot-answers row p (sends d n) e =
       says-only c d _ ∙ unlooked-told _ (Sent _) refl
-      ∙ ap (λ (x : List ℕ). answered (record { control = d; rows = c .rows }) (Sent (length x)))
+      ∙ ap (λ (x : List ℕ). answered (record { control = d; rows = c .rows; held = c .held }) (Sent (length x)))
       (ap (λ (x : List ℕ). frameOf (record { bytes = x })) (row-bytes (c .rows) n row e) ∙ frame-row (c .rows) n sixteen)
 
   -- r being the slot's ruling

@@ -9,7 +9,7 @@ use Rattle.masks.specs.Pick.{pick}
 use Rattle.masks.specs.PickLaws.{pick-true, by-test}
 use Rattle.rules.proofs.Answer.{the-type as the-answer}
 use Rattle.rules.specs.declared.Answer.{Answer}
-use Rattle.rules.specs.declared.Answer.the-variants.{Ok, Value, Stored, Queued, HeldOff, Sent, Pulse, Refused, Overrun, Unmatched, BadFrame, Ignored, Woke, NotSent}
+use Rattle.rules.specs.declared.Answer.the-variants.{Ok, Value, Stored, Queued, Waiting, HeldOff, Sent, Pulse, Refused, Overrun, Unmatched, BadFrame, Ignored, Woke, NotSent}
 use Rattle.rules.specs.declared.Control.{Control}
 use Rattle.rules.specs.Bus.{examined}
 use Rattle.rules.specs.LookedLaws.{lookedBy}
@@ -34,6 +34,7 @@ module _ (c : Control) where
   by-tag (Value v) = (refl, refl)
   by-tag (Stored n) = (refl, refl)
   by-tag (Queued n) = (refl, refl)
+  by-tag (Waiting n) = (refl, refl)
   by-tag (HeldOff n) = (refl, refl)
   by-tag (Sent k) = (refl, refl)
   by-tag (Pulse k) = (refl, refl)

@@ -1,11 +1,12 @@
 -- Register reads and writes in the terms of the code: that their answers and changes do what the rules say.
-use mathlib.Core.Path.{_≡_, refl, sym, ap, _∙_}
+use mathlib.Core.Path.{_≡_, refl, sym, ap, ap₂, _∙_}
 use Prim.Native.Nat.{ℕ, suc, _-_, _%_, _≤_, _<_}
-use mathlib.Core.Bool.{Bool, true, false, _&&_, not}
-use mathlib.Core.List.{List, []}
+use mathlib.Core.Bool.{Bool, true, false, _&&_, _||_, not}
+use mathlib.Core.List.{List, [], _∷_, _++_}
 use native.Mathlib.Omega.{arith}
 use borrow.Author.Tests.{not-false, eqb-true, eqb-false, ltb-true, ltb-false}
 use lib.ListN.{getD, set, length, List·getD-eq-default}
+use lib.Seq.{set-set}
 use lib.Dec.{eqb, ltb}
 use Rattle.masks.specs.Pick.{pick}
 use Rattle.masks.specs.PickLaws.{pick-true, pick-false, by-test}
@@ -17,21 +18,25 @@ use Rattle.rules.specs.declared.Answer.{Answer}
 use Rattle.rules.specs.declared.Answer.the-variants.{Ok, Value, Refused}
 use Rattle.rules.specs.declared.Register.{Register}
 use Rattle.rules.specs.declared.Control.{Control}
-use Rattle.rules.specs.Registers.{Region, sendPlace, receivePlace, fifoPlace, elsewhere, regionOf, lowMap, registerAt}
+use Rattle.rules.specs.Registers.{Region, sendPlace, receivePlace, fifoPlace, controlOf, elsewhere, regionOf, lowMap, registerAt, has, LOCK}
 use Rattle.rules.specs.Kinds.{fifoHolder}
 use Rattle.rules.specs.Steps.{read, write, dataRegister}
-use Rattle.rules.specs.Plan.{headAt, say}
+use Rattle.rules.specs.Plan.{headAt, Move, release, say}
+use Rattle.rules.specs.Waiting.{delivery, deliveries}
+use Rattle.waiting.specs.Code.{isAwaited, newestOf}
+use Rattle.writes.specs.CodeDelivery.{releases}
 use Rattle.rules.specs.Reads.{valueOf, windowReply, replyIn, readReply}
 use Rattle.rules.specs.Writes.{written, windowMoves, movesIn, writeMoves}
 use Rattle.rules.specs.Refusals.{refuses1, firstOf, readRefusal, writeRefusal, refusal}
 use Rattle.rules.specs.Rules.{act, decide}
 use Rattle.controller.specs.declared.Controller.{Controller}
-use Rattle.controller.specs.Carry.{heads, rowAt, moveAll, answerOf, carry}
+use Rattle.controller.specs.declared.Done.{Done}
+use Rattle.controller.specs.Carry.{heads, rowAt, moveAll, holdAll, answerOf, carry}
 use Rattle.controller.specs.Session.{stepOf}
 use Rattle.controller.specs.ViewLaws.{head-at}
 use Rattle.controller.specs.Calls.{doneOf}
-use Rattle.controller.specs.Code.{answered, unlooked, staying, toldOf, changed, holderIn, holderOf, windowRow, windowByte, valueIn, registerValue, readAnswer, writePlace, windowChange, changeIn, registerChange, writeChange}
-use Rattle.controller.specs.CodeLaws.{step-plain, step-told, by-plan, plain-done, row-own, unlooked-told, says-only, puts-row}
+use Rattle.controller.specs.Code.{answered, unlooked, staying, toldOf, changed, holderIn, holderOf, windowRow, windowByte, valueIn, registerValue, readAnswer, writePlace, windowChange, reachedIn, releaseChange, changeIn, registerChange, writeChange}
+use Rattle.controller.specs.CodeLaws.{step-plain, step-told, by-plan, plain-done, row-own, unlooked-told, says-only, places-row, puts-row}
 
 -- ---- register reads
 
@@ -40,6 +45,7 @@ dataIn : Region → Bool
 dataIn (sendPlace p) = not (ltb p 2)
 dataIn (receivePlace p) = not (ltb p 2)
 dataIn (fifoPlace p) = not (ltb p 2)
+dataIn (controlOf n) = false
 dataIn elsewhere = false
 
 dataPlace : Register → Bool
@@ -94,6 +100,7 @@ module _ (c : Controller) (sixteen : length (c .rows) ≡ 16) (a : ℕ) where
   region-value (sendPlace p) v d = window-value (c .rows) sixteen a (c .control .transmit .holder) p (λ t. d (ap not t))
   region-value (receivePlace p) v d = window-value (c .rows) sixteen a (c .control .receive .holder) p (λ t. d (ap not t))
   region-value (fifoPlace p) v d = window-value (c .rows) sixteen a (fifoHolder (c .control)) p (λ t. d (ap not t))
+  region-value (controlOf n) v d = refl
   region-value elsewhere v d = refl
 
   register-value : (r : Register) → (dataPlace r ≡ true → dataRegister a ≡ true) →
@@ -109,12 +116,12 @@ module _ (c : Controller) (sixteen : length (c .rows) ≡ 16) (a : ℕ) where
       never : _≡_ {A = ℕ} 1 0 → ⊥
       never q = omega arith
 
-  read-plan : readRefusal (c .control) a ≡ 0 → stepOf c (read a) ≡ carry (read a) (c .rows) (record { control = c .control; moves = []; reply = readReply (c .control) (heads (c .rows)) (registerAt a); looked = 0 })
+  read-plan : readRefusal (c .control) a ≡ 0 → stepOf c (read a) ≡ carry (read a) (c .rows) (c .held) (record { control = c .control; moves = []; reply = readReply (c .control) (heads (c .rows)) (registerAt a); looked = 0 })
   unfolding decide refusal act pick
-  read-plan e = step-plain c (read a) ∙ ap (carry (read a) (c .rows)) (simp e)
+  read-plan e = step-plain c (read a) ∙ ap (carry (read a) (c .rows) (c .held)) (simp e)
 
   read-accepted : readRefusal (c .control) a ≡ 0 → doneOf (stepOf c (read a)) ≡ answered c (Value (registerValue (c .control) (registerAt a) (rowAt (c .rows) (windowRow (c .control) (registerAt a)))))
-  unfolding carry moveAll
+  unfolding carry moveAll holdAll
   read-accepted e = step-told c (read a) ∙ ap toldOf (read-plan e) ∙ ap (λ (x : Answer). answered c x) (sym (register-value (registerAt a) (data-place a (low-address e))))
 
   read-refused : eqb (readRefusal (c .control) a) 0 ≡ false → doneOf (stepOf c (read a)) ≡ answered c (Refused (readRefusal (c .control) a))
@@ -135,11 +142,53 @@ module _ (c : Controller) (sixteen : length (c .rows) ≡ 16) (a : ℕ) where
 
 module _ (c : Controller) (a v : ℕ) where
   -- the move of a window is its place written
-  pub window-moves : (n p : ℕ) → set (c .rows) n (writePlace (rowAt (c .rows) n) p v) ≡ moveAll (write a v) (windowMoves n p v) (c .rows)
+  pub window-moves : (n p : ℕ) → set (c .rows) n (writePlace (rowAt (c .rows) n) p v) ≡ moveAll (write a v) (c .held) (windowMoves n p v) (c .rows)
   unfolding windowMoves writePlace moveAll
   window-moves n p =
       by-test (eqb p 0) (λ t. simp (pick-true, t))
       (λ t. by-test (eqb p 1) (λ u. simp (pick-true, pick-false, t, u)) (λ u. simp (pick-false, t, u)))
+
+  -- and leaves the frames that wait
+  window-held : (n p : ℕ) → holdAll (write a v) (windowMoves n p v) (c .held) ≡ c .held
+  unfolding windowMoves holdAll
+  window-held n p =
+      by-test (eqb p 0) (λ t. simp (pick-true, t))
+      (λ t. by-test (eqb p 1) (λ u. simp (pick-true, pick-false, t, u)) (λ u. simp (pick-false, t, u)))
+
+  -- the frames that waited for n, stored in order of arrival: the newest is left
+  in-order : (s t u : Bool) (n : ℕ) →
+      moveAll (write a v) (c .held) (pick s (pick u (release 1 n ∷ []) [] ++ pick t (release 0 n ∷ []) []) (pick t (release 0 n ∷ []) [] ++ pick u (release 1 n ∷ []) [])) (c .rows)
+      ≡ pick (t || u) (set (c .rows) n (rowAt (c .held) (pick t (pick u (pick s 0 1) 0) 1))) (c .rows)
+  unfolding moveAll pick
+  in-order true true true n = set-set (c .rows) n (rowAt (c .held) 1) (rowAt (c .held) 0)
+  in-order false true true n = set-set (c .rows) n (rowAt (c .held) 0) (rowAt (c .held) 1)
+  in-order true true false n = refl
+  in-order false true false n = refl
+  in-order true false true n = refl
+  in-order false false true n = refl
+  in-order true false false n = refl
+  in-order false false false n = refl
+
+  still-held : (s t u : Bool) (n : ℕ) →
+      holdAll (write a v) (pick s (pick u (release 1 n ∷ []) [] ++ pick t (release 0 n ∷ []) []) (pick t (release 0 n ∷ []) [] ++ pick u (release 1 n ∷ []) [])) (c .held) ≡ c .held
+  unfolding holdAll pick
+  still-held true true true n = refl
+  still-held false true true n = refl
+  still-held true true false n = refl
+  still-held false true false n = refl
+  still-held true false true n = refl
+  still-held false false true n = refl
+  still-held true false false n = refl
+  still-held false false false n = refl
+
+  pub deliveries-rows : (n : ℕ) → moveAll (write a v) (c .held) (deliveries (c .control) n) (c .rows)
+      ≡ pick (isAwaited (c .control .places) n) (set (c .rows) n (rowAt (c .held) (newestOf (c .control .places) n))) (c .rows)
+  unfolding deliveries delivery isAwaited newestOf
+  deliveries-rows n = in-order (c .control .places .swapped) (eqb (c .control .places .first) n) (eqb (c .control .places .second) n) n
+
+  pub deliveries-held : (n : ℕ) → holdAll (write a v) (deliveries (c .control) n) (c .held) ≡ c .held
+  unfolding deliveries delivery
+  deliveries-held n = still-held (c .control .places .swapped) (eqb (c .control .places .first) n) (eqb (c .control .places .second) n) n
 
   write-plan : writeRefusal (c .control) a v ≡ 0 →
       decide (c .control) (heads (c .rows)) (write a v)
@@ -149,7 +198,11 @@ module _ (c : Controller) (a v : ℕ) where
 
   pub write-accepted : writeRefusal (c .control) a v ≡ 0 →
       doneOf (stepOf c (write a v))
-      ≡ answered (record { control = written (c .control) (registerAt a) v; rows = moveAll (write a v) (writeMoves (c .control) (registerAt a) v) (c .rows) }) Ok
+      ≡ answered (record {
+        control = written (c .control) (registerAt a) v;
+        rows = moveAll (write a v) (c .held) (writeMoves (c .control) (registerAt a) v) (c .rows);
+        held = holdAll (write a v) (writeMoves (c .control) (registerAt a) v) (c .held);
+      }) Ok
   unfolding carry
   write-accepted e = by-plan c (write a v) _ (write-plan e)
 
@@ -158,29 +211,53 @@ module _ (c : Controller) (a v : ℕ) where
   write-refused t = by-plan c (write a v) _ (pick-false (eqb (writeRefusal (c .control) a v) 0) _ _ t) ∙ plain-done c (write a v) (c .control) _
 
 module _ (c : Controller) (sixteen : length (c .rows) ≡ 16) (a v : ℕ) where
+  -- the control state d and these moves, answered "ok"
+  abbrev after : Control → List Move → Done
+  after d ms =
+      staying (record { control = d; rows = moveAll (write a v) (c .held) ms (c .rows); held = holdAll (write a v) ms (c .held) }) (unlooked Ok)
+
   window-changes : (d : Control) (n p : ℕ) (row : Contents) → row ≡ rowAt (c .rows) (n % 16) →
-      changed c (windowChange d n p v row) ≡ staying (record { control = d; rows = moveAll (write a v) (windowMoves n p v) (c .rows) }) (unlooked Ok)
+      changed c (windowChange d n p v row) ≡ after d (windowMoves n p v)
   window-changes d n p row e =
       puts-row c d (unlooked Ok) (λ (b : Contents). writePlace b p v) n row sixteen e
-      ∙ ap (λ (rows : List Contents). staying (record { control = d; rows = rows }) (unlooked Ok)) (window-moves c a v n p)
+      ∙ ap₂ (λ (rows held : List Contents). staying (record { control = d; rows = rows; held = held }) (unlooked Ok))
+      (window-moves c a v n p) (sym (window-held c a v n p))
 
-  region-changes : (d : Control) (g : Region) (row : Contents) → row ≡ rowAt (c .rows) (holderIn (c .control) g % 16) →
-      changed c (changeIn (c .control) d row g v) ≡ staying (record { control = d; rows = moveAll (write a v) (movesIn (c .control) g v) (c .rows) }) (unlooked Ok)
-  unfolding moveAll
+  release-changes : (d : Control) (n : ℕ) (image : Contents) → image ≡ rowAt (c .held) (newestOf (c .control .places) n) →
+      changed c (releaseChange (c .control) d n v image) ≡ after d (pick (has v LOCK) [] (deliveries (c .control) n))
+  unfolding releases moveAll holdAll
+  release-changes d n image e =
+      by-test (has v LOCK)
+      (λ t. simp (t, pick-true, pick-false) (says-only c d (unlooked Ok)))
+      (λ t. simp (t, pick-false)
+      (by-test (isAwaited (c .control .places) n)
+      (λ u. simp (u, pick-true)
+      (places-row c d (unlooked Ok) n image sixteen
+      ∙ ap₂ kept (ap (set (c .rows) n) e ∙ sym (deliveries-rows c a v n ∙ pick-true _ _ _ u)) (sym (deliveries-held c a v n))))
+      (λ u. simp (u, pick-false) (says-only c d (unlooked Ok) ∙ ap₂ kept (sym (deliveries-rows c a v n ∙ pick-false _ _ _ u)) (sym (deliveries-held c a v n))))))
+    where
+      kept : List Contents → List Contents → Done
+      kept rows held = staying (record { control = d; rows = rows; held = held }) (unlooked Ok)
+
+  region-changes : (d : Control) (g : Region) (row : Contents) → row ≡ reachedIn c g →
+      changed c (changeIn (c .control) d row g v) ≡ after d (movesIn (c .control) g v)
+  unfolding moveAll holdAll
   region-changes d (sendPlace p) row e = window-changes d (c .control .transmit .holder) p row e
   region-changes d (receivePlace p) row e = window-changes d (c .control .receive .holder) p row e
   region-changes d (fifoPlace p) row e = says-only c d (unlooked Ok)
+  region-changes d (controlOf n) row e = release-changes d n row e
   region-changes d elsewhere row e = says-only c d (unlooked Ok)
 
-  register-changes : (d : Control) (r : Register) (row : Contents) → row ≡ rowAt (c .rows) (windowRow (c .control) r) →
-      changed c (registerChange (c .control) d r v row) ≡ staying (record { control = d; rows = moveAll (write a v) (writeMoves (c .control) r v) (c .rows) }) (unlooked Ok)
-  unfolding registerChange holderOf writeMoves
+  register-changes : (d : Control) (r : Register) (row : Contents) → row ≡ reachedIn c (regionOf r) →
+      changed c (registerChange (c .control) d r v row) ≡ after d (writeMoves (c .control) r v)
+  unfolding registerChange writeMoves
   register-changes d r row e = region-changes d (regionOf r) row e
 
-  -- row being that of the window's holder
-  pub write-changes : (row : Contents) → row ≡ rowAt (c .rows) (windowRow (c .control) (registerAt a)) → changed c (writeChange (c .control) a v row) ≡ doneOf (stepOf c (write a v))
+  -- row being the one that the register reaches, if the write is accepted
+  pub write-changes : (row : Contents) → (writeRefusal (c .control) a v ≡ 0 → row ≡ reachedIn c (regionOf (registerAt a))) → changed c (writeChange (c .control) a v row) ≡ doneOf (stepOf c (write a v))
   unfolding writeChange
   write-changes row e =
       by-test (eqb (writeRefusal (c .control) a v) 0)
-      (λ t. ap (changed c) (pick-true (eqb (writeRefusal (c .control) a v) 0) _ _ t) ∙ register-changes _ (registerAt a) row e ∙ unlooked-told _ Ok refl ∙ sym (write-accepted c a v (eqb-true (writeRefusal (c .control) a v) 0 t)))
+      (λ t. ap (changed c) (pick-true (eqb (writeRefusal (c .control) a v) 0) _ _ t) ∙ register-changes _ (registerAt a) row (e (eqb-true (writeRefusal (c .control) a v) 0 t))
+      ∙ unlooked-told _ Ok refl ∙ sym (write-accepted c a v (eqb-true (writeRefusal (c .control) a v) 0 t)))
       (λ t. ap (changed c) (pick-false (eqb (writeRefusal (c .control) a v) 0) _ _ t) ∙ says-only c (c .control) _ ∙ unlooked-told c (Refused _) refl ∙ sym (write-refused c a v t))

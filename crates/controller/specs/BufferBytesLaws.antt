@@ -1,8 +1,8 @@
 -- A buffer's bytes from step to step, and what a register reads that shows one.
 use mathlib.Core.Path.{_≡_, refl, sym, ap, ap₂, _∙_}
 use Prim.Native.Nat.{ℕ, zero, suc, _+_, _-_, _≤_, _<_}
-use mathlib.Core.Bool.{Bool, true, false, _&&_, and-eq-true-iff, false≢true}
-use mathlib.Core.List.{List}
+use mathlib.Core.Bool.{Bool, true, false, _&&_, _||_, not, and-eq-true-iff, false≢true}
+use mathlib.Core.List.{List, []}
 use native.Mathlib.Omega.{arith}
 use borrow.Author.Tests.{eqb-true, eqb-false, eq-eqb, ne-eqb, lt-ltb, le-ltb, ltb-true, ltb-false}
 use lib.ListN.{getD, set, length, List·getD-eq-default}
@@ -18,25 +18,27 @@ use Rattle.rules.specs.declared.Register.the-variants.{TransmitWindow, ReceiveW
 use Rattle.rules.specs.declared.Answer.{Answer}
 use Rattle.rules.specs.declared.Answer.the-variants.{Value, Refused}
 use Rattle.rules.specs.declared.Control.{Control}
-use Rattle.rules.specs.Registers.{Region, sendPlace, receivePlace, fifoPlace, elsewhere, regionOf, registerAt, lowMap}
+use Rattle.rules.specs.Registers.{Region, sendPlace, receivePlace, fifoPlace, controlOf, elsewhere, regionOf, registerAt, lowMap, has, LOCK}
 use Rattle.rules.specs.Kinds.{fifoHolder}
 use Rattle.rules.specs.Refusals.{refusal, readRefusal, writeRefusal, firstOf, refuses1, refuses2, refuses11}
 use Rattle.rules.specs.Reads.{windowReply, replyIn, readReply}
 use Rattle.rules.specs.Writes.{windowMoves, movesIn, writeMoves}
-use Rattle.rules.specs.Answers.{isPut, isPutIn, numberIn, givenOf}
+use Rattle.rules.specs.Waiting.{asleep, deliveries}
+use Rattle.waiting.specs.Code.{isAwaited, newestOf}
+use Rattle.rules.specs.Answers.{isPut, isPutIn, isHeld, wordOf, WAITING, numberIn, givenOf}
 use Rattle.rules.specs.Steps.{Step, reset, read, write, sync, syncDue, slot, frame, fault, timeout, dataRegister}
 use Rattle.rules.specs.Plan.{Plan}
 use Rattle.rules.specs.Rules.{act, decide}
-use Rattle.rules.specs.BusPlanLaws.{FramePlan, drops, puts, frame-plan, SlotPlan, says, sends, slot-plan}
+use Rattle.rules.specs.BusPlanLaws.{FramePlan, drops, waits, puts, frame-plan, SlotPlan, says, sends, slot-plan}
 use Rattle.controller.specs.declared.Controller.{Controller}
 use Rattle.controller.specs.declared.Done.{Done}
 use Rattle.controller.specs.Carry.{heads, rowAt, moveAll, answerOf, Outcome, carry}
 use Rattle.controller.specs.Session.{stepOf}
 use Rattle.controller.specs.Calls.{doneOf}
-use Rattle.controller.specs.BufferBytes.{byteAt, isPlaceOf, shows, mayChange}
+use Rattle.controller.specs.BufferBytes.{byteAt, isPlaceOf, isReleaseOf, shows, delivers, mayChange}
 use Rattle.controller.specs.Code.{changed, eventChange, writePlace}
 use Rattle.controller.specs.CodeLaws.{step-plain, placed-none, sync-changes, sync-due-changes, fault-changes, timeout-changes, slotPlan}
-use Rattle.controller.specs.AccessLaws.{window-moves, write-accepted, write-refused}
+use Rattle.controller.specs.AccessLaws.{window-moves, deliveries-rows, write-accepted, write-refused}
 use Rattle.controller.specs.ViewLaws.{head-at}
 use Rattle.controller.specs.Unchanged.{read-unchanged}
 
@@ -52,11 +54,16 @@ same-put m n a x y =
 no-put : (n : ℕ) (a : Answer) → isPut a ≡ false → isPutIn n a ≡ false
 no-put n a e = simp e
 
-pub put-plan : (rows : List Contents) (good : Bool) (f : List ℕ) (n : ℕ) (p : Plan) → FramePlan p →
-    isPutIn n (carry (frame good f) rows p .answer) ≡ true → carry (frame good f) rows p .next .rows ≡ set rows n (imageOf f)
+-- nor does "waiting"
+held-unput : (n : ℕ) (a : Answer) → isHeld a ≡ true → isPutIn n a ≡ false
+held-unput n a e = let w = eqb-true (wordOf a) WAITING e in ap (λ (x : ℕ). (eqb x 2 || eqb x 3) && eqb (numberIn (givenOf a)) n) w
+
+pub put-plan : (rows held : List Contents) (good : Bool) (f : List ℕ) (n : ℕ) (p : Plan) → FramePlan p →
+    isPutIn n (carry (frame good f) rows held p .answer) ≡ true → carry (frame good f) rows held p .next .rows ≡ set rows n (imageOf f)
 unfolding carry moveAll
-put-plan rows good f n p (drops d a k q) x = absurd (false≢true (sym (no-put n a q) ∙ x))
-put-plan rows good f n p (puts d m a k q) x = ap (λ (i : ℕ). set rows i (imageOf f)) (same-put m n a q x)
+put-plan rows held good f n p (drops d a k q r) x = absurd (false≢true (sym (no-put n a q) ∙ x))
+put-plan rows held good f n p (waits d j a k h q) x = absurd (false≢true (sym (held-unput n a q) ∙ x))
+put-plan rows held good f n p (puts d m a k q) x = ap (λ (i : ℕ). set rows i (imageOf f)) (same-put m n a q x)
 
 -- a frame of another size is refused
 pub size-refused : (c : Controller) (good : Bool) (f : List ℕ) → eqb (length f) (2 + cut (getD f 1 0)) ≡ false → stepOf c (frame good f) .answer ≡ Refused 11
@@ -64,11 +71,12 @@ unfolding carry decide refusal refuses11 pick
 size-refused c good f t = ap (λ (o : Outcome). o .answer) (step-plain c (frame good f)) ∙ simp t
 
 -- one that is put elsewhere, or nowhere, leaves the buffer
-unput-plan : (rows : List Contents) (good : Bool) (f : List ℕ) (n : ℕ) (p : Plan) → FramePlan p →
-    isPutIn n (carry (frame good f) rows p .answer) ≡ false → rowAt (carry (frame good f) rows p .next .rows) n ≡ rowAt rows n
+unput-plan : (rows held : List Contents) (good : Bool) (f : List ℕ) (n : ℕ) (p : Plan) → FramePlan p →
+    isPutIn n (carry (frame good f) rows held p .answer) ≡ false → rowAt (carry (frame good f) rows held p .next .rows) n ≡ rowAt rows n
 unfolding carry moveAll
-unput-plan rows good f n p (drops d a k q) x = refl
-unput-plan rows good f n p (puts d m a k q) x =
+unput-plan rows held good f n p (drops d a k q r) x = refl
+unput-plan rows held good f n p (waits d j a k h q) x = refl
+unput-plan rows held good f n p (puts d m a k q) x =
     getD-set-other rows m n (imageOf f) noContents (λ e. false≢true (sym x ∙ ap (λ (i : ℕ). isPutIn i a) e ∙ q))
 
 -- the bytes behind a frame whose image is in buffer n, also past the last buffer
@@ -117,20 +125,46 @@ written-other rows h p v n k apart = by-test (eqb h n) own (λ t. ap byte (getD-
         (λ u. ap (λ (x : List Contents). byte (rowAt x h)) (set-out rows h _ (ltb-false h (length rows) u)))
         ∙ ap (λ (i : ℕ). byte (rowAt rows i)) same
 
+first-false : (x y : Bool) → (x || y) ≡ false → x ≡ false
+first-false true y e = e
+first-false false y e = refl
+
 module _ (c : Controller) (a v n k : ℕ) where
-  window-other : (h p : ℕ) → (eqb h n && eqb p k) ≡ false → getD (rowAt (moveAll (write a v) (windowMoves h p v) (c .rows)) n .bytes) k 0 ≡ byteAt c n k
+  window-other : (h p : ℕ) → (eqb h n && eqb p k) ≡ false → getD (rowAt (moveAll (write a v) (c .held) (windowMoves h p v) (c .rows)) n .bytes) k 0 ≡ byteAt c n k
   window-other h p apart =
       ap (λ (rows : List Contents). getD (rowAt rows n .bytes) k 0) (sym (window-moves c a v h p)) ∙ written-other (c .rows) h p v n k apart
 
-  region-other : (g : Region) → isPlaceOf (c .control) n k g ≡ false → getD (rowAt (moveAll (write a v) (movesIn (c .control) g v) (c .rows)) n .bytes) k 0 ≡ byteAt c n k
+  -- LOCK of buffer m written: where that stores no frame in n, n stays
+  release-other : (m : ℕ) → (eqb m n && not (has v LOCK) && isAwaited (c .control .places) n) ≡ false →
+      getD (rowAt (moveAll (write a v) (c .held) (pick (has v LOCK) [] (deliveries (c .control) m)) (c .rows)) n .bytes) k 0 ≡ byteAt c n k
   unfolding moveAll
-  region-other (sendPlace p) e = window-other (c .control .transmit .holder) p e
-  region-other (receivePlace p) e = window-other (c .control .receive .holder) p e
+  release-other m e =
+      by-test (has v LOCK) (λ t. simp (t, pick-true))
+      (λ t. simp (t, pick-false)
+      (ap byteIn (deliveries-rows c a v m)
+      ∙ by-test (isAwaited (c .control .places) m)
+      (λ u. ap byteIn (pick-true _ _ _ u) ∙ ap (λ (b : Contents). getD (b .bytes) k 0) (getD-set-other (c .rows) m n _ noContents (apart t u)))
+      (λ u. ap byteIn (pick-false _ _ _ u))))
+    where
+      byteIn : List Contents → ℕ
+      byteIn rows = getD (rowAt rows n .bytes) k 0
+
+      apart : has v LOCK ≡ false → isAwaited (c .control .places) m ≡ true → n ≡ m → ⊥
+      apart t u same =
+          let awaited = ap (isAwaited (c .control .places)) same ∙ u in
+          false≢true (sym e ∙ simp (eq-eqb m n (sym same), t, awaited))
+
+  region-other : (g : Region) → (isPlaceOf (c .control) n k g || isReleaseOf (c .control) n v g) ≡ false →
+      getD (rowAt (moveAll (write a v) (c .held) (movesIn (c .control) g v) (c .rows)) n .bytes) k 0 ≡ byteAt c n k
+  unfolding moveAll isAwaited
+  region-other (sendPlace p) e = window-other (c .control .transmit .holder) p (first-false _ _ e)
+  region-other (receivePlace p) e = window-other (c .control .receive .holder) p (first-false _ _ e)
   region-other (fifoPlace p) e = refl
+  region-other (controlOf m) e = release-other m e
   region-other elsewhere e = refl
 
   write-keeps : mayChange c n k (write a v) ≡ false → byteAt (stepOf c (write a v) .next) n k ≡ byteAt c n k
-  unfolding mayChange refusal shows writeMoves
+  unfolding mayChange refusal shows delivers writeMoves
   write-keeps e =
       by-test (eqb (writeRefusal (c .control) a v) 0)
       (λ t. ap (λ (d : Done). byteAt (d .next) n k) (write-accepted c a v (eqb-true (writeRefusal (c .control) a v) 0 t)) ∙ region-other (regionOf (registerAt a)) (simp t at e))
@@ -138,10 +172,10 @@ module _ (c : Controller) (a v n k : ℕ) where
 
 -- ---- any step
 
-slot-rows : (e : Step) (rows : List Contents) (p : Plan) → SlotPlan p → carry e rows p .next .rows ≡ rows
+slot-rows : (e : Step) (rows held : List Contents) (p : Plan) → SlotPlan p → carry e rows held p .next .rows ≡ rows
 unfolding carry moveAll
-slot-rows e rows p (says d a u) = refl
-slot-rows e rows p (sends d n) = refl
+slot-rows e rows held p (says d a u) = refl
+slot-rows e rows held p (sends d n) = refl
 
 module _ (c : Controller) (n k : ℕ) where
   -- a step that only answers
@@ -159,12 +193,12 @@ module _ (c : Controller) (n k : ℕ) where
   step-keeps syncDue x = event-keeps syncDue (sync-due-changes c)
   step-keeps (slot i room) x =
       ap (λ (o : Outcome). byteAt (o .next) n k) (step-plain c (slot i room))
-      ∙ ap (λ (rows : List Contents). getD (rowAt rows n .bytes) k 0) (slot-rows (slot i room) (c .rows) (slotPlan c i room) (slot-plan (c .control) (heads (c .rows)) i room))
+      ∙ ap (λ (rows : List Contents). getD (rowAt rows n .bytes) k 0) (slot-rows (slot i room) (c .rows) (c .held) (slotPlan c i room) (slot-plan (c .control) (heads (c .rows)) i room))
   step-keeps (frame good f) x =
       let same = step-plain c (frame good f) in
       ap (λ (o : Outcome). byteAt (o .next) n k) same
       ∙ ap (λ (b : Contents). getD (b .bytes) k 0)
-      (unput-plan (c .rows) good f n _ (frame-plan (c .control) (heads (c .rows)) good f) (ap (λ (o : Outcome). isPutIn n (o .answer)) (sym same) ∙ x))
+      (unput-plan (c .rows) (c .held) good f n _ (frame-plan (c .control) (heads (c .rows)) good f) (ap (λ (o : Outcome). isPutIn n (o .answer)) (sym same) ∙ x))
   step-keeps (fault s) x = event-keeps (fault s) (fault-changes c s)
   step-keeps timeout x = event-keeps timeout (timeout-changes c)
 
@@ -236,6 +270,7 @@ module _ (c : Controller) (a n : ℕ) where
   region-reads k (sendPlace p) v e z = window-reads (c .control .transmit .holder) p k e z
   region-reads k (receivePlace p) v e z = window-reads (c .control .receive .holder) p k e z
   region-reads k (fifoPlace p) v e z = window-reads (fifoHolder (c .control)) p k e z
+  region-reads k (controlOf m) v e z = absurd (false≢true e)
   region-reads k elsewhere v e z = absurd (false≢true e)
 
 module _ (c : Controller) (n k a : ℕ) (shown : shows (c .control) n k a ≡ true) where
@@ -251,8 +286,8 @@ module _ (c : Controller) (n k a : ℕ) (shown : shows (c .control) n k a ≡ tr
   unfolding shows registerAt lowMap pick
   not-mcr = ne-eqb a 0 (λ e. false≢true (ap (λ (x : ℕ). isPlaceOf (c .control) n k (regionOf (registerAt x))) (sym e) ∙ shown))
 
-  pub zero-read : byteAt c n k ≡ 0 → stepOf c (read a) .answer ≡ pick (c .control .mode .slpak) (Refused 2) (Value 0)
+  pub zero-read : byteAt c n k ≡ 0 → stepOf c (read a) .answer ≡ pick (asleep (c .control)) (Refused 2) (Value 0)
   unfolding carry decide refusal readRefusal firstOf refuses1 refuses2 act readReply shows pick
   zero-read z =
       ap (λ (o : Outcome). o .answer) (step-plain c (read a))
-      ∙ by-test (c .control .mode .slpak) (λ t. simp (in-map, not-mcr, t)) (λ t. simp (in-map, not-mcr, t) (region-reads c a n k (regionOf (registerAt a)) _ shown z))
+      ∙ by-test (asleep (c .control)) (λ t. simp (in-map, not-mcr, t)) (λ t. simp (in-map, not-mcr, t) (region-reads c a n k (regionOf (registerAt a)) _ shown z))

@@ -11,7 +11,7 @@ use Rattle.rules.specs.declared.Answer.{Answer}
 use Rattle.rules.specs.declared.Answer.the-variants.{Ok, Value, Sent, Refused}
 use Rattle.rules.specs.declared.Register.{Register}
 use Rattle.rules.specs.declared.Register.the-variants.{Bufctl}
-use Rattle.rules.specs.Registers.{Region, sendPlace, receivePlace, fifoPlace, elsewhere, regionOf, registerAt}
+use Rattle.rules.specs.Registers.{Region, sendPlace, receivePlace, fifoPlace, controlOf, elsewhere, regionOf, registerAt}
 use Rattle.rules.specs.declared.Verdict.{Verdict}
 use Rattle.rules.specs.declared.Verdict.the-variants.{Say, Store, Send}
 use Rattle.rules.specs.declared.Ruling.{Ruling}
@@ -22,6 +22,8 @@ use Rattle.rules.specs.Writes.{written}
 use Rattle.rules.specs.Refusals.{readRefusal, writeRefusal}
 use Rattle.rules.specs.Steps.{Step, slot}
 use Rattle.rules.specs.Rules.{decide}
+use Rattle.waiting.specs.Code.{newestOf}
+use Rattle.writes.specs.CodeDelivery.{releases}
 use Rattle.bus_steps.specs.Code.{rulingOf}
 use Rattle.controller.specs.declared.Controller.{Controller}
 use Rattle.rules.specs.LookedLaws.{lookedBy}
@@ -52,13 +54,17 @@ toldOf o = answered (o .next) (o .answer)
 
 -- ---- a change
 
--- the control state d alone, with the answer x: no buffer, and zeros for its bytes
+-- the control state d alone, with the answer x: no buffer and no place, and zeros for their bytes
 abbrev pub saying : Control → Answered → Change
-saying d x = record { control = d; buffer = 16; bytes = replicate 14 0; answered = x }
+saying d x = record { control = d; buffer = 16; place = 2; bytes = replicate 14 0; answered = x }
 
--- the control state d and the bytes b of buffer n, with the answer x
+-- the control state d and the bytes b of buffer n, or of waiting place k, with the answer x
+abbrev pub storing : Control → ℕ → ℕ → List ℕ → Answered → Change
+storing d n k b x = record { control = d; buffer = n; place = k; bytes = b; answered = x }
+
+-- those of buffer n alone
 abbrev pub placing : Control → ℕ → List ℕ → Answered → Change
-placing d n b x = record { control = d; buffer = n; bytes = b; answered = x }
+placing d n b x = storing d n 2 b x
 
 -- the same for any n: from 16 on there is no buffer
 abbrev pub putting : Control → ℕ → List ℕ → Answered → Change
@@ -68,10 +74,20 @@ putting d n b x = pick (ltb n 16) (placing d n b x) (saying d x)
 unfoldable pub placed : List Contents → ℕ → List ℕ → List Contents
 placed rows n bytes = pick (ltb n 16) (set rows n (record { bytes = bytes })) rows
 
+-- the places' bytes after it: where no buffer's bytes change, those of place k, 0 or 1, else as they were
+unfoldable pub heldBy : List Contents → ℕ → ℕ → List ℕ → List Contents
+heldBy held n k bytes =
+    pick (ltb n 16) held (pick (ltb k 2) (set held k (record { bytes = bytes })) held)
+
 abbrev pub changed : Controller → Change → Done
 changed c x =
     record {
-      next = record { control = x .control; rows = placed (c .rows) (x .buffer) (x .bytes) };
+      next =
+          record {
+            control = x .control;
+            rows = placed (c .rows) (x .buffer) (x .bytes);
+            held = heldBy (c .held) (x .buffer) (x .place) (x .bytes);
+          };
       answer = x .answered .answer;
       looked = x .answered .looked;
     }
@@ -86,14 +102,15 @@ rulingFor c e = rulingOf (decide (c .control) (heads (c .rows)) e)
 abbrev pub slotRuling : Controller → ℕ → ℕ → Ruling
 slotRuling c i size = rulingFor c (slot i (replicate size 0))
 
--- the control state d with the configuration and the locks of c: after an event of the bus, from c, that is d itself
+-- the control state d with the configuration, the locks and the waiting places of c: after an event of the bus that is no frame, from c,
+-- that is d itself
 unfoldable pub keptFrom : Control → Control → Control
-keptFrom c d = record { mode = d .mode; config = c .config; events = d .events; fifo = d .fifo; receive = c .receive; transmit = c .transmit; buffers = d .buffers }
+keptFrom c d = record { mode = d .mode; config = c .config; events = d .events; fifo = d .fifo; receive = c .receive; transmit = c .transmit; places = c .places; buffers = d .buffers }
 
 -- the answer of a verdict that only answers
 abbrev pub saidBy : Verdict → Answer
 saidBy (Say a) = a
-saidBy (Store n a) = a
+saidBy (Store n k a) = a
 saidBy (Send n) = Ok
 
 -- a ruling that only answers, from the control state c
@@ -108,18 +125,18 @@ eventChange c e = saidChange (c .control) (rulingFor c e)
 
 abbrev pub frameChangeBy : Control → List ℕ → Answered → Verdict → Change
 frameChangeBy d f x (Say a) = saying d x
-frameChangeBy d f x (Store n a) = placing d n (imageOf f .bytes) x
+frameChangeBy d f x (Store n k a) = storing d n k (imageOf f .bytes) x
 frameChangeBy d f x (Send n) = saying d x
 
 unfoldable pub frameChange : Ruling → List ℕ → Change
 frameChange r f = frameChangeBy (r .next) f (countedBy (r .next) (saidBy (r .verdict))) (r .verdict)
 
--- ---- a slot's ruling as a change, from the row of its buffer: it never stores
+-- ---- a slot's ruling as a change, from the row of its buffer: no frame is stored or waits
 
 -- index of the row of the buffer that is sent; any row where none is
 abbrev pub rowIndex : Verdict → ℕ
 rowIndex (Say a) = 0
-rowIndex (Store n a) = 0
+rowIndex (Store n k a) = 0
 rowIndex (Send n) = n % 16
 
 -- the fourteen bytes of buffer n, zeros past the last
@@ -131,7 +148,7 @@ rowBytes rows n = bytesAt n (rowAt rows n)
 
 abbrev pub slotAnswer : Contents → Verdict → Answer
 slotAnswer row (Say a) = a
-slotAnswer row (Store n a) = a
+slotAnswer row (Store n k a) = a
 slotAnswer row (Send n) = Sent (length (frameOf (record { bytes = bytesAt n row })))
 
 unfoldable pub slotChange : Ruling → Contents → Change
@@ -140,13 +157,13 @@ slotChange r row = saying (r .next) (unlooked (slotAnswer row (r .verdict)))
 -- the room afterwards
 abbrev pub roomBy : List Contents → List ℕ → Verdict → List ℕ
 roomBy rows room (Say a) = room
-roomBy rows room (Store n a) = room
+roomBy rows room (Store n k a) = room
 roomBy rows room (Send n) = fillRoom (frameOf (rowAt rows n)) room
 
 -- the same for a room of any size: one of less than 14 bytes stays as it is
 abbrev pub roomSent : List Contents → List ℕ → Verdict → List ℕ
 roomSent rows room (Say a) = room
-roomSent rows room (Store n a) = room
+roomSent rows room (Store n k a) = room
 roomSent rows room (Send n) = roomAfter (record { bytes = rowBytes rows n }) room
 
 -- ---- registers
@@ -159,6 +176,7 @@ abbrev pub holderIn : Control → Region → ℕ
 holderIn c (sendPlace p) = c .transmit .holder
 holderIn c (receivePlace p) = c .receive .holder
 holderIn c (fifoPlace p) = fifoHolder c
+holderIn c (controlOf n) = 16
 holderIn c elsewhere = 16
 
 -- the holder of a register's window, 16 for a register that is no place of a window
@@ -173,6 +191,7 @@ abbrev pub valueIn : Control → Contents → Region → ℕ → ℕ
 valueIn c row (sendPlace p) v = windowByte (c .transmit .holder) p row
 valueIn c row (receivePlace p) v = windowByte (c .receive .holder) p row
 valueIn c row (fifoPlace p) v = windowByte (fifoHolder c) p row
+valueIn c row (controlOf n) v = v
 valueIn c row elsewhere v = v
 
 -- what a register reads; row is that of its window's holder, here and below
@@ -193,21 +212,46 @@ writePlace b p v = pick (eqb p 0) (withIdent b v) (pick (eqb p 1) (withLength b 
 abbrev pub windowChange : Control → ℕ → ℕ → ℕ → Contents → Change
 windowChange d n p v row = putting d n (writePlace row p v .bytes) (unlooked Ok)
 
+-- the row that a register reaches: that of its window's holder, or for a control register the newest frame that waits for its buffer;
+-- any row where there is none
+abbrev pub reachedIn : Controller → Region → Contents
+reachedIn c (sendPlace p) = rowAt (c .rows) (c .control .transmit .holder % 16)
+reachedIn c (receivePlace p) = rowAt (c .rows) (c .control .receive .holder % 16)
+reachedIn c (fifoPlace p) = rowAt (c .rows) (fifoHolder (c .control) % 16)
+reachedIn c (controlOf n) = rowAt (c .held) (newestOf (c .control .places) n)
+reachedIn c elsewhere = rowAt (c .rows) 0
+
+-- the control state d, and in buffer n the frame that waited for it, if it is released by v
+abbrev pub releaseChange : Control → Control → ℕ → ℕ → Contents → Change
+releaseChange c d n v image = pick (releases c n v) (placing d n (image .bytes) (unlooked Ok)) (saying d (unlooked Ok))
+
 abbrev pub changeIn : Control → Control → Contents → Region → ℕ → Change
 changeIn c d row (sendPlace p) v = windowChange d (c .transmit .holder) p v row
 changeIn c d row (receivePlace p) v = windowChange d (c .receive .holder) p v row
 changeIn c d row (fifoPlace p) v = saying d (unlooked Ok)
+changeIn c d row (controlOf n) v = releaseChange c d n v row
 changeIn c d row elsewhere v = saying d (unlooked Ok)
+
+-- the same but for control registers, which have a path of their own
+abbrev pub lowChangeIn : Control → Control → Contents → Region → ℕ → Change
+lowChangeIn c d row (sendPlace p) v = windowChange d (c .transmit .holder) p v row
+lowChangeIn c d row (receivePlace p) v = windowChange d (c .receive .holder) p v row
+lowChangeIn c d row (fifoPlace p) v = saying d (unlooked Ok)
+lowChangeIn c d row (controlOf n) v = saying d (unlooked Ok)
+lowChangeIn c d row elsewhere v = saying d (unlooked Ok)
+
+unfoldable pub lowChange : Control → Control → Register → ℕ → Contents → Change
+lowChange c d r v row = lowChangeIn c d row (regionOf r) v
 
 -- the write of a register that gives the control state d, from c, which says the holders
 unfoldable pub registerChange : Control → Control → Register → ℕ → Contents → Change
 registerChange c d r v row = changeIn c d row (regionOf r) v
 
--- the write of buffer n's control register
-unfoldable pub controlChange : Control → ℕ → ℕ → Change
-controlChange c n v =
+-- the write of buffer n's control register, from the newest frame that waits for n
+unfoldable pub controlChange : Control → ℕ → ℕ → Contents → Change
+controlChange c n v image =
     let k = writeRefusal c (0x50 + n) v in
-    pick (eqb k 0) (saying (written c (Bufctl n) v) (unlooked Ok)) (saying c (unlooked (Refused k)))
+    pick (eqb k 0) (releaseChange c (written c (Bufctl n) v) n v image) (saying c (unlooked (Refused k)))
 
 -- the write of address a
 unfoldable pub writeChange : Control → ℕ → ℕ → Contents → Change

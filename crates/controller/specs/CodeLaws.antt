@@ -1,5 +1,5 @@
 -- The steps of the bus in the terms of the code: what a change does to the record, and that its changes and rulings do what the rules say.
-use mathlib.Core.Path.{_≡_, refl, sym, ap, _∙_}
+use mathlib.Core.Path.{_≡_, refl, sym, ap, ap₂, _∙_}
 use Prim.Native.Nat.{ℕ, _%_, _≤_, _<_}
 use mathlib.Core.Bool.{Bool, true, false}
 use mathlib.Core.List.{List}
@@ -27,26 +27,27 @@ use Rattle.rules.specs.Steps.{Step, reset, sync, syncDue, slot, frame, fault, t
 use Rattle.rules.specs.Plan.{Reply, say, show, send, Plan, plain}
 use Rattle.rules.specs.Answers.{isLookedUp}
 use Rattle.rules.specs.Refusals.{refuses11, refuses12, refusal}
-use Rattle.rules.specs.Modes.{wake}
+use Rattle.rules.specs.Waiting.{asleep}
+use Rattle.rules.specs.Modes.{wake, cancel}
 use Rattle.rules.specs.Bus.{woken, dueKind, lookup, offers, judged, received, slotFor, slotted, synced, dueSync, timedOut, faulted}
 use Rattle.rules.specs.Rules.{onBus, wakes, sleepsOn, act, decide}
 use Rattle.rules.specs.Hidden.{decide-hide}
 use Rattle.rules.specs.LookedLaws.{lookedBy, lookedIn, decide-told}
-use Rattle.rules.specs.BusPlanLaws.{FramePlan, drops, puts, frame-plan, SlotPlan, says, sends, slot-plan}
+use Rattle.rules.specs.BusPlanLaws.{FramePlan, drops, waits, puts, frame-plan, SlotPlan, says, sends, slot-plan}
 use Rattle.bus_steps.specs.Code.{rulingOf, isReady, syncedOf, dueOf}
 use Rattle.bus_steps.specs.CodeLaws.{synced-ready, due-ready}
 use Rattle.controller.specs.declared.Controller.{Controller}
 use Rattle.controller.specs.declared.Answered.{Answered}
 use Rattle.controller.specs.declared.Done.{Done}
-use Rattle.controller.specs.Carry.{heads, rowAt, moveAll, answerOf, Outcome, carry, resetState}
+use Rattle.controller.specs.Carry.{heads, rowAt, moveAll, holdAll, answerOf, Outcome, carry, resetState}
 use Rattle.controller.specs.Session.{stepOf}
 use Rattle.controller.specs.Calls.{doneOf, accepted}
-use Rattle.controller.specs.Code.{answered, countedBy, unlooked, staying, toldOf, saying, placing, putting, placed, changed, rulingFor, slotRuling, keptFrom, saidChange, eventChange, frameChange, rowIndex, roomBy}
+use Rattle.controller.specs.Code.{answered, countedBy, unlooked, staying, toldOf, saying, storing, placing, putting, placed, heldBy, changed, rulingFor, slotRuling, keptFrom, saidChange, eventChange, frameChange, rowIndex, roomBy}
 
 -- the rules are given the step itself
-pub step-plain : (c : Controller) (e : Step) → stepOf c e ≡ carry e (c .rows) (decide (c .control) (heads (c .rows)) e)
+pub step-plain : (c : Controller) (e : Step) → stepOf c e ≡ carry e (c .rows) (c .held) (decide (c .control) (heads (c .rows)) e)
 unfolding stepOf
-step-plain c e = ap (carry e (c .rows)) (decide-hide (c .control) (heads (c .rows)) e)
+step-plain c e = ap (carry e (c .rows) (c .held)) (decide-hide (c .control) (heads (c .rows)) e)
 
 -- ---- a change carried out
 
@@ -58,6 +59,25 @@ module _ (rows : List Contents) (n : ℕ) (bytes : List ℕ) where
   pub placed-one : n < 16 → placed rows n bytes ≡ set rows n (record { bytes = bytes })
   unfolding placed
   placed-one h = pick-true (ltb n 16) _ _ (lt-ltb n 16 h)
+
+-- no waiting place changes
+pub held-none : (held : List Contents) (n : ℕ) (bytes : List ℕ) → heldBy held n 2 bytes ≡ held
+unfolding heldBy pick
+held-none held n bytes = pick-keeps (λ (x : List Contents). x ≡ held) (ltb n 16) (λ t. refl) (λ t. refl)
+
+pub held-by-row : (held : List Contents) (n k : ℕ) (bytes : List ℕ) → n < 16 → heldBy held n k bytes ≡ held
+unfolding heldBy
+held-by-row held n k bytes h = pick-true (ltb n 16) _ _ (lt-ltb n 16 h)
+
+-- place k does
+pub held-one : (held : List Contents) (n k : ℕ) (bytes : List ℕ) → 16 ≤ n → k < 2 → heldBy held n k bytes ≡ set held k (record { bytes = bytes })
+unfolding heldBy
+held-one held n k bytes past h = pick-false (ltb n 16) _ _ (le-ltb n 16 past) ∙ pick-true (ltb k 2) _ _ (lt-ltb k 2 h)
+
+-- none does
+pub held-no-place : (held : List Contents) (n k : ℕ) (bytes : List ℕ) → 16 ≤ n → 2 ≤ k → heldBy held n k bytes ≡ held
+unfolding heldBy
+held-no-place held n k bytes past h = pick-false (ltb n 16) _ _ (le-ltb n 16 past) ∙ pick-false (ltb k 2) _ _ (le-ltb k 2 h)
 
 -- row being the one to look at for buffer n
 pub row-own : (rows : List Contents) (n : ℕ) (row : Contents) → n < 16 → row ≡ rowAt rows (n % 16) → row ≡ rowAt rows n
@@ -73,40 +93,45 @@ unlooked-told c a u = ap (λ (k : ℕ). record { next = c; answer = a; looked = 
 
 module _ (c : Controller) (d : Control) (x : Answered) where
   -- the record with these bytes, and the answer
-  abbrev given : List Contents → Done
-  given rows = staying (record { control = d; rows = rows }) x
+  abbrev given : List Contents → List Contents → Done
+  given rows held = staying (record { control = d; rows = rows; held = held }) x
 
-  pub says-only : changed c (saying d x) ≡ given (c .rows)
-  says-only = ap given (placed-none (c .rows) 16 (replicate 14 0) (omega arith))
+  pub says-only : changed c (saying d x) ≡ given (c .rows) (c .held)
+  says-only = ap₂ given (placed-none (c .rows) 16 (replicate 14 0) (omega arith)) (held-none (c .held) 16 (replicate 14 0))
+
+  -- place k becomes b
+  pub places-held : (k : ℕ) (b : Contents) → k < 2 → changed c (storing d 16 k (b .bytes) x) ≡ given (c .rows) (set (c .held) k b)
+  places-held k b h = ap₂ given (placed-none (c .rows) 16 (b .bytes) (omega arith)) (held-one (c .held) 16 k (b .bytes) (omega arith) h)
 
   -- buffer n becomes b
-  pub places-row : (n : ℕ) (b : Contents) → length (c .rows) ≡ 16 → changed c (placing d n (b .bytes) x) ≡ given (set (c .rows) n b)
+  pub places-row : (n : ℕ) (b : Contents) → length (c .rows) ≡ 16 → changed c (placing d n (b .bytes) x) ≡ given (set (c .rows) n b) (c .held)
   places-row n b sixteen =
-      by-test (ltb n 16) (λ t. ap given (placed-one (c .rows) n (b .bytes) (ltb-true n 16 t)))
-      (λ t. let past = ltb-false n 16 t in ap given (placed-none (c .rows) n (b .bytes) past ∙ sym (set-out (c .rows) n b (omega arith))))
+      let held = held-none (c .held) n (b .bytes) in
+      by-test (ltb n 16) (λ t. ap₂ given (placed-one (c .rows) n (b .bytes) (ltb-true n 16 t)) held)
+      (λ t. let past = ltb-false n 16 t in ap₂ given (placed-none (c .rows) n (b .bytes) past ∙ sym (set-out (c .rows) n b (omega arith))) held)
 
   -- buffer n becomes what w makes of it, which is had from the row to look at
   pub puts-row : (w : Contents → Contents) (n : ℕ) (row : Contents) → length (c .rows) ≡ 16 → row ≡ rowAt (c .rows) (n % 16) →
-      changed c (putting d n (w row .bytes) x) ≡ given (set (c .rows) n (w (rowAt (c .rows) n)))
+      changed c (putting d n (w row .bytes) x) ≡ given (set (c .rows) n (w (rowAt (c .rows) n))) (c .held)
   puts-row w n row sixteen e = by-test (ltb n 16) inside outside
     where
-      inside : ltb n 16 ≡ true → changed c (putting d n (w row .bytes) x) ≡ given (set (c .rows) n (w (rowAt (c .rows) n)))
+      inside : ltb n 16 ≡ true → changed c (putting d n (w row .bytes) x) ≡ given (set (c .rows) n (w (rowAt (c .rows) n))) (c .held)
       inside t =
           ap (changed c) (pick-true (ltb n 16) _ _ t)
           ∙ places-row n (w row) sixteen
-          ∙ ap (λ (b : Contents). given (set (c .rows) n (w b))) (row-own (c .rows) n row (ltb-true n 16 t) e)
+          ∙ ap (λ (b : Contents). given (set (c .rows) n (w b)) (c .held)) (row-own (c .rows) n row (ltb-true n 16 t) e)
 
-      outside : ltb n 16 ≡ false → changed c (putting d n (w row .bytes) x) ≡ given (set (c .rows) n (w (rowAt (c .rows) n)))
+      outside : ltb n 16 ≡ false → changed c (putting d n (w row .bytes) x) ≡ given (set (c .rows) n (w (rowAt (c .rows) n))) (c .held)
       outside t =
           let past = ltb-false n 16 t in
-          ap (changed c) (pick-false (ltb n 16) _ _ t) ∙ says-only ∙ ap given (sym (set-out (c .rows) n _ (omega arith)))
+          ap (changed c) (pick-false (ltb n 16) _ _ t) ∙ says-only ∙ ap (λ (rows : List Contents). given rows (c .held)) (sym (set-out (c .rows) n _ (omega arith)))
 
 -- ---- rulings
 
 -- a verdict's row is one of the sixteen
 pub row-within : (v : Verdict) → rowIndex v < 16
 row-within (Say a) = omega arith
-row-within (Store n a) = omega arith
+row-within (Store n k a) = omega arith
 row-within (Send n) = omega arith
 
 answer-told : (d : Control) (e : Step) (rows : List Contents) (r : Reply) → lookedIn d r ≡ lookedBy d (answerOf e rows r)
@@ -124,15 +149,16 @@ step-told c e =
     (decide-told (c .control) (heads (c .rows)) (hide e) .told ∙ answer-told (p .control) e (c .rows) (p .reply))
 
 -- what the step does, as its plan is carried out
-pub by-plan : (c : Controller) (e : Step) (p : Plan) → decide (c .control) (heads (c .rows)) e ≡ p → doneOf (stepOf c e) ≡ toldOf (carry e (c .rows) p)
-by-plan c e p d = step-told c e ∙ ap toldOf (step-plain c e ∙ ap (carry e (c .rows)) d)
+pub by-plan : (c : Controller) (e : Step) (p : Plan) → decide (c .control) (heads (c .rows)) e ≡ p → doneOf (stepOf c e) ≡ toldOf (carry e (c .rows) (c .held) p)
+by-plan c e p d = step-told c e ∙ ap toldOf (step-plain c e ∙ ap (carry e (c .rows) (c .held)) d)
 
 -- a plan that changes the control state alone
-pub plain-done : (c : Controller) (e : Step) (d : Control) (a : Answer) → toldOf (carry e (c .rows) (plain d a)) ≡ answered (record { control = d; rows = c .rows }) a
-unfolding carry moveAll
+pub plain-done : (c : Controller) (e : Step) (d : Control) (a : Answer) → toldOf (carry e (c .rows) (c .held) (plain d a)) ≡ answered (record { control = d; rows = c .rows; held = c .held }) a
+unfolding carry moveAll holdAll
 plain-done c e d a = refl
 
--- a plan that only answers, from the control state c: no buffer's bytes are looked at, and the configuration and the locks stay
+-- a plan that only answers, from the control state c: no buffer's bytes are looked at, and the configuration, the locks and the waiting
+-- places stay
 pub data OnlySays (c : Control) : Plan → Type 0 where
   only : (d : Control) (a : Answer) → isLookedUp a ≡ false → keptFrom c d ≡ d → OnlySays c (plain d a)
 
@@ -144,12 +170,12 @@ woken-kept : (c : Control) → keptFrom c (woken c) ≡ woken c
 unfolding keptFrom woken wake
 woken-kept c = refl
 
-synced-kept : (k : SyncKind) (c : Control) (hs : List Head) → keptFrom c (synced k c hs) ≡ synced k c hs
-unfolding keptFrom synced
+synced-kept : (k : SyncKind) (c : Control) (hs : List Head) → keptFrom c (synced k (cancel c) hs) ≡ synced k (cancel c) hs
+unfolding keptFrom synced cancel
 synced-kept k c hs = refl
 
-faulted-kept : (k : Fault) (c : Control) → keptFrom c (faulted k c) ≡ faulted k c
-unfolding keptFrom faulted
+faulted-kept : (k : Fault) (c : Control) → keptFrom c (faulted k (cancel c)) ≡ faulted k (cancel c)
+unfolding keptFrom faulted cancel
 faulted-kept Early c = refl
 faulted-kept Lost c = refl
 faulted-kept Illegal c = refl
@@ -162,7 +188,7 @@ timed-out-kept c = refl
 bus-says : (c : Control) (p q : Plan) → OnlySays c p → OnlySays c q → OnlySays c (onBus c p q)
 unfolding onBus
 bus-says c p q x y =
-    pick-keeps (OnlySays c) (c .mode .init) (λ t. only c Ignored refl (same-kept c)) (λ t. pick-keeps (OnlySays c) (c .mode .slpak) (λ u. x) (λ u. y))
+    pick-keeps (OnlySays c) (c .mode .init) (λ t. only c Ignored refl (same-kept c)) (λ t. pick-keeps (OnlySays c) (asleep c) (λ u. x) (λ u. y))
 
 wakes-says : (c d : Control) → keptFrom c d ≡ d → OnlySays c (wakes c (plain d Ok))
 wakes-says c d k = bus-says c _ _ (only (woken c) Woke refl (woken-kept c)) (only d Ok refl k)
@@ -176,19 +202,20 @@ due-says c hs =
     bus-says c _ _ (only c Ignored refl (same-kept c))
     (pick-keeps (OnlySays c) (c .mode .master) (λ t. only _ _ refl (synced-kept (dueKind c) c hs)) (λ t. only c Ignored refl (same-kept c)))
 
-only-changes : (c : Controller) (e : Step) (p : Plan) → OnlySays (c .control) p → changed c (saidChange (c .control) (rulingOf p)) ≡ toldOf (carry e (c .rows) p)
+only-changes : (c : Controller) (e : Step) (p : Plan) → OnlySays (c .control) p → changed c (saidChange (c .control) (rulingOf p)) ≡ toldOf (carry e (c .rows) (c .held) p)
 only-changes c e p (only d a u k) =
-    says-only c _ (unlooked a) ∙ ap (λ (h : Control). staying (record { control = h; rows = c .rows }) (unlooked a)) k ∙ unlooked-told _ a u ∙ sym (plain-done c e d a)
+    says-only c _ (unlooked a) ∙ ap (λ (h : Control). staying (record { control = h; rows = c .rows; held = c .held }) (unlooked a)) k ∙ unlooked-told _ a u ∙ sym (plain-done c e d a)
 
 event-changes : (c : Controller) (e : Step) → OnlySays (c .control) (decide (c .control) (heads (c .rows)) e) → changed c (eventChange c e) ≡ doneOf (stepOf c e)
 unfolding rulingFor
 event-changes c e s = only-changes c e _ s ∙ sym (by-plan c e _ refl)
 
--- a frame's plan stores the frame's image, whatever stood there
+-- a frame's plan stores the frame's image, or keeps it in a place, whatever stood there
 frame-stores : (c : Controller) → length (c .rows) ≡ 16 → (good : Bool) (f : List ℕ) (p : Plan) → FramePlan p →
-    changed c (frameChange (rulingOf p) f) ≡ toldOf (carry (frame good f) (c .rows) p)
-unfolding carry moveAll frameChange
-frame-stores c sixteen good f p (drops d a k q) = says-only c d (countedBy d a)
+    changed c (frameChange (rulingOf p) f) ≡ toldOf (carry (frame good f) (c .rows) (c .held) p)
+unfolding carry moveAll holdAll frameChange
+frame-stores c sixteen good f p (drops d a k q r) = says-only c d (countedBy d a)
+frame-stores c sixteen good f p (waits d j a k h q) = places-held c d (countedBy d a) j (imageOf f) h
 frame-stores c sixteen good f p (puts d n a k q) = places-row c d (countedBy d a) n (imageOf f) sixteen
 
 -- ---- what the events change
@@ -211,7 +238,7 @@ module _ (c : Controller) where
   timeout-changes = event-changes c timeout (sleeps-says (c .control) _ (timed-out-kept (c .control)))
 
   pub reset-step : doneOf (stepOf c reset) ≡ staying resetState accepted
-  unfolding stepOf decide refusal act pick carry moveAll resetState
+  unfolding stepOf decide refusal act pick carry moveAll holdAll resetState
   reset-step = refl
 
   -- r being the frame's ruling
@@ -230,7 +257,7 @@ module _ (c : Controller) where
   unfolding rulingFor decide refusal act refuses12
   slot-sized i room = simp length-replicate
 
-  slot-fills : (i : ℕ) (room : List ℕ) (p : Plan) → SlotPlan p → carry (slot i room) (c .rows) p .room ≡ roomBy (c .rows) room (rulingOf p .verdict)
+  slot-fills : (i : ℕ) (room : List ℕ) (p : Plan) → SlotPlan p → carry (slot i room) (c .rows) (c .held) p .room ≡ roomBy (c .rows) room (rulingOf p .verdict)
   unfolding carry
   slot-fills i room p (says d a u) = fill-none room
   slot-fills i room p (sends d n) = refl

@@ -15,6 +15,7 @@ use Rattle.contents.specs.Bytes.{cut, imageOf}
 use Rattle.rules.specs.declared.Answer.the-variants.{Value, Refused}
 use Rattle.rules.specs.declared.Control.{Control}
 use Rattle.rules.specs.Kinds.{fifoHolder}
+use Rattle.rules.specs.Waiting.{asleep}
 use Rattle.rules.specs.Answers.{isPutIn}
 use Rattle.rules.specs.Steps.{Step, read, frame}
 use Rattle.rules.specs.BusPlanLaws.{frame-plan}
@@ -32,7 +33,7 @@ pub put-image : (c : Controller) (good : Bool) (f : List ℕ) (n : ℕ) → isPu
 put-image c good f n put =
     let same = step-plain c (frame good f) in
     ap (λ (o : Outcome). o .next .rows) same
-    ∙ put-plan (c .rows) good f n _ (frame-plan (c .control) (heads (c .rows)) good f) (ap (λ (o : Outcome). isPutIn n (o .answer)) (sym same) ∙ put)
+    ∙ put-plan (c .rows) (c .held) good f n _ (frame-plan (c .control) (heads (c .rows)) good f) (ap (λ (o : Outcome). isPutIn n (o .answer)) (sym same) ∙ put)
 
 -- the frame then has 2 + L bytes, L being the length that it is stored with
 pub put-sized : (c : Controller) (good : Bool) (f : List ℕ) (n : ℕ) → isPutIn n (stepOf c (frame good f) .answer) ≡ true → length f ≡ 2 + cut (getD f 1 0)
@@ -65,7 +66,8 @@ module _ (c : Controller) (good : Bool) (f : List ℕ) (n : ℕ) (put : isPutIn 
     abbrev later : Controller
     later = endOf after es
 
-    -- it is 0, and stays so until a write to a register that shows it, the next frame that is put in n, or reset
+    -- it is 0, and stays so until a write to a register that shows it, the next frame that is put in n, at once or when it has
+    -- waited for n, or reset
     pub zeros-behind : byteAt later n k ≡ 0
     zeros-behind =
         let size = put-sized c good f n put in
@@ -73,5 +75,5 @@ module _ (c : Controller) (good : Bool) (f : List ℕ) (n : ℕ) (put : isPutIn 
         ∙ ap (λ (rows : List Contents). getD (rowAt rows n .bytes) k 0) (put-image c good f n put) ∙ zero-at (c .rows) f n k (omega arith) (omega arith)
 
     -- so a register that shows it reads 0, or is refused 2 asleep
-    pub zeros-read : (a : ℕ) → shows (later .control) n k a ≡ true → stepOf later (read a) .answer ≡ pick (later .control .mode .slpak) (Refused 2) (Value 0)
+    pub zeros-read : (a : ℕ) → shows (later .control) n k a ≡ true → stepOf later (read a) .answer ≡ pick (asleep (later .control)) (Refused 2) (Value 0)
     zeros-read a shown = zero-read later n k a shown zeros-behind

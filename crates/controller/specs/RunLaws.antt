@@ -32,13 +32,13 @@ run-by-length c (e ∷ es) = ap suc (run-by-length _ es)
 
 -- ---- what is shown is what document 01 reports
 
-detail-carried : (e : Step) (rows : List Contents) (c : Control) (ms : List Move) (r : Reply) (k : ℕ) → saysSent r ≡ false →
-    shownDetail (carry e rows (record { control = c; moves = ms; reply = r; looked = k }) .answer) (carry e rows (record { control = c; moves = ms; reply = r; looked = k }) .room)
-    ≡ detailOf (carry e rows (record { control = c; moves = ms; reply = r; looked = k }) .answer) (carry e rows (record { control = c; moves = ms; reply = r; looked = k }) .sent)
+detail-carried : (e : Step) (rows held : List Contents) (c : Control) (ms : List Move) (r : Reply) (k : ℕ) → saysSent r ≡ false →
+    shownDetail (carry e rows held (record { control = c; moves = ms; reply = r; looked = k }) .answer) (carry e rows held (record { control = c; moves = ms; reply = r; looked = k }) .room)
+    ≡ detailOf (carry e rows held (record { control = c; moves = ms; reply = r; looked = k }) .answer) (carry e rows held (record { control = c; moves = ms; reply = r; looked = k }) .sent)
 unfolding carry fillRoom
-detail-carried e rows c ms (say a) k s = detail-same a _ _ s
-detail-carried e rows c ms (show n j) k s = refl
-detail-carried e rows c ms (send n) k s = ap (bytes (length (frameOf (rowAt rows n)))) (take-append-seam (frameOf (rowAt rows n)) _)
+detail-carried e rows held c ms (say a) k s = detail-same a _ _ s
+detail-carried e rows held c ms (show n j) k s = refl
+detail-carried e rows held c ms (send n) k s = ap (bytes (length (frameOf (rowAt rows n)))) (take-append-seam (frameOf (rowAt rows n)) _)
 
 pub report-shown : (c : Controller) (e : Step) → shown (stepOf c e .answer) (stepOf c e .room) (linesOf (stepOf c e .next .control)) (stepOf c e .looked) ≡ reportOf linesOf (stepOf c e)
 unfolding stepOf
@@ -46,7 +46,7 @@ report-shown c e =
     let p = decide (c .control) (heads (c .rows)) (hide e) in
     let o = stepBy decide c e in
     ap (λ (d : Detail). record { word = wordOf (o .answer); detail = d; room = o .room; lines = linesOf (o .next .control); looked = o .looked })
-    (detail-carried e (c .rows) (p .control) (p .moves) (p .reply) (p .looked) (never-says-sent (c .control) (heads (c .rows)) (hide e)))
+    (detail-carried e (c .rows) (c .held) (p .control) (p .moves) (p .reply) (p .looked) (never-says-sent (c .control) (heads (c .rows)) (hide e)))
 
 pub run-cons : (c : Controller) (e : Step) (es : List Step) → runOf c (e ∷ es) ≡ reportOf linesOf (stepOf c e) ∷ runOf (stepOf c e .next) es
 unfolding runOf runBy stepOf

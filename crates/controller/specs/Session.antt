@@ -36,7 +36,7 @@ reportOf lines o =
 
 -- One step under some rules. They are given the step with its payload put to 0 and the heads of the buffers.
 abbrev pub stepBy : Rules → Controller → Step → Outcome
-stepBy decide c e = carry e (c .rows) (decide (c .control) (heads (c .rows)) (hide e))
+stepBy decide c e = carry e (c .rows) (c .held) (decide (c .control) (heads (c .rows)) (hide e))
 
 module _ (decide : Rules) (lines : Control → ℕ) where
   -- the reports of a session that starts with the record c

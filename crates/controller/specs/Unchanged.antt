@@ -11,7 +11,7 @@ use Rattle.rules.specs.Rules.{act, decide}
 use Rattle.rules.specs.Answers.{changesNothing}
 use Rattle.rules.specs.UnchangedLaws.{decide-still}
 use Rattle.controller.specs.declared.Controller.{Controller}
-use Rattle.controller.specs.Carry.{moveAll, carry, heads}
+use Rattle.controller.specs.Carry.{moveAll, holdAll, carry, heads}
 use Rattle.controller.specs.Session.{stepOf}
 use Rattle.controller.specs.UnchangedLaws.{still-carried}
 
@@ -31,6 +31,6 @@ refused-or-ignored c e t =
 
 -- a read changes nothing, refused or not
 pub read-unchanged : (c : Controller) (a : ℕ) → stepOf c (read a) .next ≡ c
-unfolding stepOf carry decide act moveAll
+unfolding stepOf carry decide act moveAll holdAll
 read-unchanged c a =
-    pick-keeps (λ (p : Plan). carry (read a) (c .rows) p .next ≡ c) (eqb (refusal (c .control) (read a)) 0) (λ t. refl) (λ t. refl)
+    pick-keeps (λ (p : Plan). carry (read a) (c .rows) (c .held) p .next ≡ c) (eqb (refusal (c .control) (read a)) 0) (λ t. refl) (λ t. refl)

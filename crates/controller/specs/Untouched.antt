@@ -28,7 +28,7 @@ unfolding stepOf carry
 locked-untouched c e n free b small locked =
     let s = decide-spares (c .control) n small locked free (heads (c .rows)) (hide e) (hide-bus e ∙ b) in
     record {
-      same-bytes = avoided-row e (c .rows) n _ (s .avoided);
+      same-bytes = avoided-row e (c .rows) (c .held) n _ (s .avoided);
       same-control = s .same-bufctl;
       same-arming = s .same-arming;
       same-roles = s .same-roles;

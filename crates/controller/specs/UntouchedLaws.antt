@@ -7,15 +7,16 @@ use lib.Seq.{getD-set-other}
 use Rattle.contents.specs.declared.Contents.{Contents}
 use Rattle.contents.specs.Bytes.{noContents}
 use Rattle.rules.specs.Steps.{Step, reset, read, write, sync, syncDue, slot, frame, fault, timeout, hide}
-use Rattle.rules.specs.Plan.{Move, store}
+use Rattle.rules.specs.Plan.{Move, store, hold}
 use Rattle.rules.specs.Untouched.{isBusEvent}
-use Rattle.rules.specs.UntouchedLaws.{Avoids, none, stores}
+use Rattle.rules.specs.UntouchedLaws.{Avoids, none, stores, holds}
 use Rattle.controller.specs.Carry.{rowAt, moveAll}
 
-pub avoided-row : (e : Step) (rows : List Contents) (n : ℕ) (ms : List Move) → Avoids n ms → rowAt (moveAll e ms rows) n ≡ rowAt rows n
+pub avoided-row : (e : Step) (rows held : List Contents) (n : ℕ) (ms : List Move) → Avoids n ms → rowAt (moveAll e held ms rows) n ≡ rowAt rows n
 unfolding moveAll
-avoided-row e rows n [] none = refl
-avoided-row e rows n (store m ∷ []) (stores d) = getD-set-other rows m n _ noContents (λ q. eqb-false n m d q)
+avoided-row e rows held n [] none = refl
+avoided-row e rows held n (hold k ∷ []) holds = refl
+avoided-row e rows held n (store m ∷ []) (stores d) = getD-set-other rows m n _ noContents (λ q. eqb-false n m d q)
 
 pub hide-bus : (e : Step) → isBusEvent (hide e) ≡ isBusEvent e
 hide-bus reset = refl

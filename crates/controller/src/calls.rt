@@ -24,6 +24,7 @@ use rules::Events;
 use rules::Fault;
 use rules::Fifo;
 use rules::Mode;
+use rules::Places;
 use rules::SyncKind;
 
 impl Controller {
@@ -46,7 +47,6 @@ impl Controller {
                     init: true,
                     master: false,
                     alarm: false,
-                    slpak: false,
                     slprq: false,
                     wpulse: false,
                     sswai: false,
@@ -77,6 +77,11 @@ impl Controller {
                 },
                 receive: free,
                 transmit: free,
+                places: Places {
+                    first: NONE,
+                    second: NONE,
+                    swapped: false,
+                },
                 buffers: Buffers {
                     cfg: 0,
                     iena: 0,
@@ -86,6 +91,7 @@ impl Controller {
                 },
             },
             rows: [blank; 16],
+            held: [blank; 2],
         }
     }
 
@@ -130,9 +136,14 @@ impl Controller {
         ensures { λ r. ⌜ r ≡ doneOf (stepOf self (write a v)) ⌝ }
     {
         let c = self.control;
-        let i = registers::window_row(c, a);
-        let row = self.rows[i];
-        carried(self, registers::write_change(c, a, v, row))
+        if a < 0x50 {
+            let i = registers::window_row(c, a);
+            let row = self.rows[i];
+            return carried(self, registers::write_change(c, a, v, row));
+        }
+        let k = registers::newest_place(c, a - 0x50);
+        let image = self.held[k];
+        carried(self, registers::write_change(c, a, v, image))
     }
 
     // A sync of a kind.

@@ -1,7 +1,7 @@
 // A change, and the record after it.
 ghost use mathlib.Core.Path.{_≡_};
 ghost use Rattle.controller.specs.Calls.{accepted};
-ghost use Rattle.controller.specs.Code.{countedBy, unlooked, changed, saying, placing};
+ghost use Rattle.controller.specs.Code.{countedBy, unlooked, changed, saying, storing, placing};
 ghost use Rattle.rules.specs.LookedLaws.{lookedBy};
 use crate::Answered;
 use crate::Change;
@@ -19,6 +19,7 @@ fn looked(c: Control, a: Answer) -> u8
 {
     match a {
         Answer::Stored(n) => kinds::examined(c, n),
+        Answer::Waiting(n) => kinds::examined(c, n),
         Answer::HeldOff(n) => kinds::examined(c, n),
         Answer::Queued(_) | Answer::Overrun | Answer::Unmatched => kinds::examined(c, NONE),
         _ => 0,
@@ -65,6 +66,7 @@ pub(crate) fn with_bytes(control: Control, n: u8, bytes: [u8; 14], a: Answer) ->
     with_counted_bytes(
         control,
         n,
+        2,
         bytes,
         Answered {
             answer: a,
@@ -80,18 +82,26 @@ pub(crate) fn with_count(control: Control, x: Answered) -> Change
     Change {
         control: control,
         buffer: NONE,
+        place: 2,
         bytes: [0u8; 14],
         answered: x,
     }
 }
 
-// The control state, and the bytes of buffer n.
-pub(crate) fn with_counted_bytes(control: Control, n: u8, bytes: [u8; 14], x: Answered) -> Change
-    ensures { λ r. ⌜ r ≡ placing control n bytes x ⌝ }
+// The control state, and the bytes of buffer n, or of waiting place k.
+pub(crate) fn with_counted_bytes(
+    control: Control,
+    n: u8,
+    k: u8,
+    bytes: [u8; 14],
+    x: Answered,
+) -> Change
+    ensures { λ r. ⌜ r ≡ storing control n k bytes x ⌝ }
 {
     Change {
         control: control,
         buffer: n,
+        place: k,
         bytes: bytes,
         answered: x,
     }
@@ -111,6 +121,21 @@ pub(crate) fn carried(c: Controller, x: Change) -> Done
         let i = x.buffer as usize;
         let b = x.bytes;
         next.rows[i] = Contents { bytes: b };
+        return Done {
+            next: next,
+            answer,
+            looked,
+        };
+    }
+    if x.place < 2 {
+        let k = x.place as usize;
+        let b = x.bytes;
+        next.held[k] = Contents { bytes: b };
+        return Done {
+            next: next,
+            answer,
+            looked,
+        };
     }
     Done {
         next: next,

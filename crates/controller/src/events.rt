@@ -42,18 +42,20 @@ fn bytes_at(n: u8, row: Contents) -> [u8; 14]
     row.bytes
 }
 
-// The control state d with the configuration and the locks of c. No event of the bus changes these: taken from c, from before the
-// step, they are seen to be in their places already, and are not written back.
+// The control state d with the configuration, the locks and the waiting places of c. Of the events of the bus a frame alone changes these,
+// and it takes another path: taken from c, from before the step, they are seen to be there already, and are not written back.
 fn kept_from(c: Control, d: Control) -> Control
     ensures { λ r. ⌜ r ≡ keptFrom c d ⌝ }
 {
     let config = c.config;
     let receive = c.receive;
     let transmit = c.transmit;
+    let places = c.places;
     let mut next = d;
     next.config = config;
     next.receive = receive;
     next.transmit = transmit;
+    next.places = places;
     next
 }
 
@@ -63,7 +65,7 @@ fn answer_of(verdict: Verdict) -> Answer
 {
     match verdict {
         Verdict::Say(a) => a,
-        Verdict::Store(_, a) => a,
+        Verdict::Store(_, _, a) => a,
         Verdict::Send(_) => Answer::Ok,
     }
 }
@@ -84,7 +86,7 @@ fn fill(verdict: Verdict, row: Contents, room: &mut [u8])
 {
     match verdict {
         Verdict::Say(_) => {}
-        Verdict::Store(_, _) => {}
+        Verdict::Store(_, _, _) => {}
         Verdict::Send(n) => {
             sending::send(bytes_at(n, row), room);
         }
@@ -178,7 +180,9 @@ pub fn frame_change(r: Ruling, f: &[u8]) -> Change
     let x = counted(control, answer_of(verdict));
     match verdict {
         Verdict::Say(_) => with_count(control, x),
-        Verdict::Store(n, _) => with_counted_bytes(control, n, receiving::store_frame(f), x),
+        Verdict::Store(n, k, _) => {
+            with_counted_bytes(control, n, k, receiving::store_frame(f), x)
+        }
         Verdict::Send(_) => with_count(control, x),
     }
 }
@@ -204,7 +208,7 @@ pub fn row_of(r: Ruling) -> usize
     let verdict = r.verdict;
     match verdict {
         Verdict::Say(_) => 0,
-        Verdict::Store(_, _) => 0,
+        Verdict::Store(_, _, _) => 0,
         Verdict::Send(n) => row_index(n),
     }
 }
@@ -215,7 +219,7 @@ fn slot_answer(verdict: Verdict, row: Contents) -> Answer
 {
     match verdict {
         Verdict::Say(a) => a,
-        Verdict::Store(_, a) => a,
+        Verdict::Store(_, _, a) => a,
         Verdict::Send(n) => Answer::Sent(sending::frame_size(bytes_at(n, row))),
     }
 }

@@ -1,8 +1,10 @@
-// What the register calls answer and change. A window shows one buffer: its holder's row is looked up first and given here, so that a
-// step in place reads no more than this row.
+// What the register calls answer and change. A window shows one buffer: its holder's row is looked up first and given here, and for a
+// control register the newest frame that waits for its buffer, so that a step in place reads no more than this row.
 ghost use mathlib.Core.Path.{_≡_};
 ghost use Rattle.rules.specs.Registers.{registerAt};
-ghost use Rattle.controller.specs.Code.{holderOf, windowRow, windowByte, registerValue, readAnswer, writePlace, windowChange, registerChange, controlChange, writeChange};
+ghost use Rattle.waiting.specs.Code.{newestOf};
+ghost use Rattle.writes.specs.CodeDelivery.{releases};
+ghost use Rattle.controller.specs.Code.{holderOf, windowRow, windowByte, registerValue, readAnswer, writePlace, windowChange, lowChange, controlChange, writeChange};
 use crate::Answered;
 use crate::Change;
 use crate::changes::with_answer;
@@ -13,6 +15,9 @@ use masks::NONE;
 use rules::Answer;
 use rules::Control;
 use rules::Register;
+use rules::bits::LOCK;
+use rules::bits::has;
+use waiting::is_awaited;
 
 // Place p of a buffer's window written.
 fn write_place(b: [u8; 14], p: u8, v: u8) -> [u8; 14]
@@ -73,9 +78,17 @@ fn write_window(c: Control, n: u8, p: u8, v: u8, row: Contents) -> Change
     with_bytes(c, n, write_place(b, p, v), Answer::Ok)
 }
 
-// The write of a register that gives the control state c, the holders being those of the control state before it.
+// LOCK of buffer n is written 0, and a frame waits for it.
+fn releases(c: Control, n: u8, v: u8) -> bool
+    ensures { λ r. ⌜ r ≡ releases c n v ⌝ }
+{
+    let p = c.places;
+    !has(v, LOCK) && is_awaited(p, n)
+}
+
+// The write of a register below $50 that gives the control state c, the holders being those of the control state before it.
 fn write_rows(holders: Control, c: Control, register: Register, v: u8, row: Contents) -> Change
-    ensures { λ x. ⌜ x ≡ registerChange holders c register v row ⌝ }
+    ensures { λ x. ⌜ x ≡ lowChange holders c register v row ⌝ }
 {
     match register {
         Register::TransmitWindow(p) => write_window(c, holders.transmit.holder, p, v, row),
@@ -84,16 +97,29 @@ fn write_rows(holders: Control, c: Control, register: Register, v: u8, row: Cont
     }
 }
 
-// What a write of buffer n's control register changes, the control state being c. Test code writes these registers most: they
-// have a path of their own from the address on.
-pub fn control_change(c: Control, n: u8, v: u8) -> Change
-    ensures { λ x. ⌜ x ≡ controlChange c n v ⌝ }
+// The place of the newest frame that waits for buffer n; any place where none does.
+pub fn newest_place(c: Control, n: u8) -> usize
+    ensures { λ k. ⌜ k ≡ newestOf (c .places) n ⌝ }
+{
+    let p = c.places;
+    waiting::newest(p, n)
+}
+
+// What a write of buffer n's control register changes, the control state being c and the newest frame that waits for n in `image`.
+// Test code writes these registers most: they have a path of their own from the address on.
+pub fn control_change(c: Control, n: u8, v: u8, image: Contents) -> Change
+    ensures { λ x. ⌜ x ≡ controlChange c n v image ⌝ }
 {
     let k = refusals::control_write_refusal(c, n, v);
     if k != 0 {
         return with_answer(c, Answer::Refused(k));
     }
-    with_answer(writes::written_control(c, n, v), Answer::Ok)
+    let d = writes::written_control(c, n, v);
+    if releases(c, n, v) {
+        let b = image.bytes;
+        return with_bytes(waiting::deliver(d, n), n, b, Answer::Ok);
+    }
+    with_answer(d, Answer::Ok)
 }
 
 // Index of the row that address a shows: its window's holder's; any row where it has none.
@@ -121,12 +147,12 @@ pub fn read_answer(c: Control, a: u8, row: Contents) -> Answered
     }
 }
 
-// What a register write changes, in the control state c, with that row.
+// What a register write changes, in the control state c, with the row that address a reaches.
 pub fn write_change(c: Control, a: u8, v: u8, row: Contents) -> Change
     ensures { λ x. ⌜ x ≡ writeChange c a v row ⌝ }
 {
     if 0x50 <= a {
-        return control_change(c, a - 0x50, v);
+        return control_change(c, a - 0x50, v, row);
     }
     let k = refusals::write_refusal(c, a, v);
     if k != 0 {

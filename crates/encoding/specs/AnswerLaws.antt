@@ -7,7 +7,7 @@ use lib.Dec.{eqb}
 use Rattle.masks.specs.Pick.{pick}
 use Rattle.rules.specs.declared.SyncKind.the-variants.{Normal, Alarm}
 use Rattle.rules.specs.declared.Answer.{Answer}
-use Rattle.rules.specs.declared.Answer.the-variants.{Ok, Value, Stored, Queued, HeldOff, Sent, Pulse, Refused, Overrun, Unmatched, BadFrame, Ignored, Woke, NotSent}
+use Rattle.rules.specs.declared.Answer.the-variants.{Ok, Value, Stored, Queued, Waiting, HeldOff, Sent, Pulse, Refused, Overrun, Unmatched, BadFrame, Ignored, Woke, NotSent}
 use Rattle.rules.specs.Answers.{wordOf, givenOf, numberIn}
 
 -- the answer with word w and detail n; any for 5, which is unused
@@ -15,7 +15,7 @@ pub answerBy : ℕ → ℕ → Answer
 answerBy w n =
     getD
     (Ok ∷ Value n ∷ Stored n ∷ Queued n ∷ HeldOff n ∷ Ok ∷ Sent n ∷ Pulse (pick (eqb n 0) Normal Alarm) ∷ Refused n
-    ∷ Overrun ∷ Unmatched ∷ BadFrame ∷ Ignored ∷ Woke ∷ NotSent ∷ [])
+    ∷ Overrun ∷ Unmatched ∷ BadFrame ∷ Ignored ∷ Woke ∷ NotSent ∷ Waiting n ∷ [])
     w Ok
 
 pub by-parts : (a : Answer) → answerBy (wordOf a) (numberIn (givenOf a)) ≡ a
@@ -24,6 +24,7 @@ by-parts Ok = refl
 by-parts (Value v) = refl
 by-parts (Stored n) = refl
 by-parts (Queued n) = refl
+by-parts (Waiting n) = refl
 by-parts (HeldOff n) = refl
 by-parts (Sent k) = refl
 by-parts (Pulse Normal) = refl

@@ -2,12 +2,13 @@
 -- whose control state, moves and answer have none above 255.
 use Prim.Native.Nat.{ℕ, _-_, _%_, _<_}
 use mathlib.Core.Bool.{Bool, true, false, _&&_, _||_, not}
-use mathlib.Core.List.{List, [], _∷_, map}
+use mathlib.Core.List.{List, [], _∷_, _++_, map}
 use native.Mathlib.Omega.{arith}
 use borrow.Author.Tests.{ltb-true}
 use lib.ListN.{getD, set, replicate}
 use lib.Dec.{eqb, ltb, leb}
 use lib.Bits.{bitAnd, bitOr}
+use Rattle.masks.specs.Pick.{pick}
 use Rattle.masks.specs.PickLaws.{pick-keeps}
 use Rattle.masks.specs.Bits.{highest}
 use Rattle.locks.specs.declared.Locks.{Locks}
@@ -25,17 +26,18 @@ use Rattle.rules.specs.declared.Fifo.{Fifo}
 use Rattle.rules.specs.declared.Mode.{Mode}
 use Rattle.rules.specs.declared.Control.{Control}
 use Rattle.rules.specs.Record.{withEvents, withFifo}
-use Rattle.rules.specs.Registers.{Region, sendPlace, receivePlace, fifoPlace, elsewhere, regionOf, registerAt, resetControl, LOCKIE, WAKEIF, SYNLIF}
+use Rattle.rules.specs.Registers.{Region, sendPlace, receivePlace, fifoPlace, controlOf, elsewhere, regionOf, registerAt, resetControl, has, LOCK, LOCKIE, WAKEIF, SYNLIF}
 use Rattle.rules.specs.Kinds.{isTransmit, isReceive, isLocked, placeAfter}
 use Rattle.rules.specs.Flags.{risr, gisr, receiveVector, transmitVector, writeRisr, writeGisr, defersClear}
-use Rattle.rules.specs.Modes.{enter, leave, wake, writeSleep, modeBy, writeMcr}
-use Rattle.rules.specs.Writes.{entersByLock, lockError, lock, releaseFifo, unlock, writeCfg, writeIena, writeIflg, writeAbtrq, writeLock, writeBufctl, writeGier, written, windowMoves, movesIn, writeMoves}
+use Rattle.rules.specs.Waiting.{isFree, asleep, deliver, delivery, deliverBoth, delivered, deliveries, waitsFor}
+use Rattle.rules.specs.Modes.{enter, leave, wake, cancel, writeSleep, modeBy, writeMcr}
+use Rattle.rules.specs.Writes.{entersByLock, lockError, lock, releaseFifo, releaseAll, unlock, writeCfg, writeIena, writeIflg, writeAbtrq, writeLock, writeBufctl, writeGier, written, windowMoves, movesIn, writeMoves}
 use Rattle.rules.specs.Reads.{mcr, buflock, bufctl, valueOf, windowReply, replyIn, readReply}
-use Rattle.rules.specs.Bus.{woken, syncEvents, syncFlag, synced, dueKind, dueSync, timedOut, lostEvents, faulted, lookup, toBuffer, fifoTakes, toFifo, raiseLast, found, judged, received, offers, sendFrom, slotFor, slotted}
+use Rattle.rules.specs.Bus.{woken, syncEvents, syncFlag, synced, dueKind, dueSync, timedOut, lostEvents, faulted, lookup, toPlace, toBuffer, fifoTakes, toFifo, raiseLast, found, judged, received, offers, sendFrom, slotFor, slotted}
 use Rattle.rules.specs.Refusals.{refuses11, refuses12, readRefusal, writeRefusal, refusal}
 use Rattle.rules.specs.Answers.{givenOf, numberIn, syncNumber}
 use Rattle.rules.specs.Steps.{Step, reset, read, write, sync, syncDue, slot, frame, fault, timeout, valueIn}
-use Rattle.rules.specs.Plan.{headAt, Move, wipe, setIdent, setLength, setData, store, Reply, say, show, send, Plan, plain, withLooked}
+use Rattle.rules.specs.Plan.{headAt, Move, wipe, setIdent, setLength, setData, store, hold, release, Reply, say, show, send, Plan, plain, withLooked}
 use Rattle.rules.specs.Rules.{onBus, act, decide}
 use Rattle.encoding.specs.Bytes.{Bytes}
 use Rattle.encoding.specs.ByteListLaws.{set-bytes, zero-bytes, no-bytes, cons-bytes, or-byte, and-byte, flag-byte, lowest-byte, highest-byte, first-byte}
@@ -57,6 +59,8 @@ putBy (setIdent n v) = v
 putBy (setLength n v) = v
 putBy (setData n j) = 0
 putBy (store n) = 0
+putBy (hold k) = 0
+putBy (release k n) = 0
 
 -- the detail that a reply says
 abbrev pub saidBy : Reply → ℕ
@@ -94,9 +98,9 @@ enter-bytes c p =
     (omega arith)
 
 sleep-bytes : (c : Control) (s : Bool) → InBytes c → InBytes (writeSleep c s)
-unfolding writeSleep wake
+unfolding writeSleep wake cancel
 sleep-bytes c true p = pick-keeps InBytes (c .config .bfen) (λ e. p) (λ e. p)
-sleep-bytes c false p = pick-keeps InBytes (c .mode .slpak) (λ e. p) (λ e. p)
+sleep-bytes c false p = pick-keeps InBytes (asleep c) (λ e. p) (λ e. p)
 
 mode-bytes : (i q s : Bool) (c : Control) → InBytes c → InBytes (modeBy i q s c)
 unfolding modeBy leave
@@ -117,9 +121,26 @@ lock-bytes c n p =
     pick-keeps InBytes (isTransmit c n) (λ e. lock-error-bytes (c .transmit) _ p)
     (λ e. pick-keeps InBytes (isReceive c n) (λ f. lock-error-bytes (c .receive) _ p) (λ f. p))
 
+release-bytes : (c : Control) (n : ℕ) → InBytes c → InBytes (releaseAll c n)
+unfolding releaseAll releaseFifo
+release-bytes c n p = pick-keeps (λ (f : Fifo). InBytes (withFifo c f)) (c .fifo .locked && eqb n (c .fifo .oldest)) (λ e. p) (λ e. p)
+
+-- a frame that waited is delivered: IFLG and the places are in no answer's number
+deliver-bytes : (c : Control) (k n : ℕ) → InBytes c → InBytes (deliver c k n)
+unfolding deliver
+deliver-bytes c k n p = pick-keeps InBytes (eqb (waitsFor (c .places) k) n) (λ e. p) (λ e. p)
+
+both-bytes : (c : Control) (k j n : ℕ) → InBytes c → InBytes (deliverBoth c k j n)
+unfolding deliverBoth
+both-bytes c k j n p = deliver-bytes _ j n (deliver-bytes c k n p)
+
+delivered-bytes : (c : Control) (n : ℕ) → InBytes c → InBytes (delivered c n)
+unfolding delivered
+delivered-bytes c n p = pick-keeps InBytes (c .places .swapped) (λ e. both-bytes c 1 0 n p) (λ e. both-bytes c 0 1 n p)
+
 unlock-bytes : (c : Control) (n : ℕ) → InBytes c → InBytes (unlock c n)
-unfolding unlock releaseFifo
-unlock-bytes c n p = pick-keeps (λ (f : Fifo). InBytes (withFifo c f)) (c .fifo .locked && eqb n (c .fifo .oldest)) (λ e. p) (λ e. p)
+unfolding unlock
+unlock-bytes c n p = release-bytes _ n (delivered-bytes c n p)
 
 iflg-bytes : (c : Control) (n v : ℕ) → InBytes c → InBytes (writeIflg c n v)
 unfolding writeIflg
@@ -182,23 +203,43 @@ window-moves n q v h =
     (λ e. pick-keeps (λ (ms : List Move). Bytes (map putBy ms)) (eqb q 1) (λ f. cons-bytes (v % 16) [] (omega arith) no-bytes)
     (λ f. cons-bytes 0 [] (omega arith) no-bytes))
 
+-- moves that put no number
+abbrev Puts : List Move → Type 0
+Puts ms = Bytes (map putBy ms)
+
+-- a release copies what was there
+two-put : (t u : Bool) (k j n : ℕ) → Puts (pick t (release k n ∷ []) [] ++ pick u (release j n ∷ []) [])
+unfolding pick
+two-put true true k j n = cons-bytes 0 (0 ∷ []) (omega arith) (cons-bytes 0 [] (omega arith) no-bytes)
+two-put true false k j n = cons-bytes 0 [] (omega arith) no-bytes
+two-put false true k j n = cons-bytes 0 [] (omega arith) no-bytes
+two-put false false k j n = no-bytes
+
+deliveries-put : (c : Control) (n : ℕ) → Puts (deliveries c n)
+unfolding deliveries delivery
+deliveries-put c n =
+    let first = eqb (c .places .first) n in
+    let second = eqb (c .places .second) n in
+    pick-keeps Puts (c .places .swapped) (λ e. two-put second first 1 0 n) (λ e. two-put first second 0 1 n)
+
 moves-in : (c : Control) (g : Region) (v : ℕ) → v < 256 → Bytes (map putBy (movesIn c g v))
 moves-in c (sendPlace q) v h = window-moves _ q v h
 moves-in c (receivePlace q) v h = window-moves _ q v h
 moves-in c (fifoPlace q) v h = no-bytes
+moves-in c (controlOf n) v h = pick-keeps Puts (has v LOCK) (λ e. no-bytes) (λ e. deliveries-put c n)
 moves-in c elsewhere v h = no-bytes
 
 -- ---- reads
 
-mcr-byte : (m : Mode) → mcr m < 256
+mcr-byte : (slpak : Bool) (m : Mode) → mcr slpak m < 256
 unfolding mcr
-mcr-byte m =
+mcr-byte slpak m =
     flag-byte _ (omega arith) (flag-byte _ (omega arith) (flag-byte _ (omega arith) (flag-byte _ (omega arith)
     (flag-byte _ (omega arith) (flag-byte _ (omega arith) (flag-byte _ (omega arith) (flag-byte _ (omega arith) (omega arith))))))))
 
 value-byte : (c : Control) (r : Register) → InBytes c → valueOf c r < 256
 unfolding valueOf risr gisr receiveVector transmitVector buflock bufctl
-value-byte c Mcr p = mcr-byte (c .mode)
+value-byte c Mcr p = mcr-byte (asleep c) (c .mode)
 value-byte c Fsizr p = p 0
 value-byte c Tcr1 p = p 1
 value-byte c Tcr2 p = p 2
@@ -238,6 +279,7 @@ module _ (hs : List Head) (q : HeadBytes hs) where
   reply-byte c (sendPlace p) v h = window-byte _ p
   reply-byte c (receivePlace p) v h = window-byte _ p
   reply-byte c (fifoPlace p) v h = window-byte _ p
+  reply-byte c (controlOf n) v h = h
   reply-byte c elsewhere v h = h
 
   read-byte : (c : Control) (r : Register) → InBytes c → Says (readReply c hs r)
@@ -285,10 +327,14 @@ number-of : (k : SyncKind) → syncNumber k < 256
 number-of Normal = omega arith
 number-of Alarm = omega arith
 
+cancel-bytes : (c : Control) → InBytes c → InBytes (cancel c)
+unfolding cancel
+cancel-bytes c p = p
+
 due-bytes : (c : Control) (hs : List Head) → InBytes c → PlanBytes (dueSync c hs)
 unfolding dueSync
 due-bytes c hs p =
-    pick-keeps PlanBytes (c .mode .master) (λ e. plain-bytes _ _ (synced-bytes (dueKind c) c hs p) (number-of (dueKind c)))
+    pick-keeps PlanBytes (c .mode .master) (λ e. plain-bytes _ _ (synced-bytes (dueKind c) (cancel c) hs (cancel-bytes c p)) (number-of (dueKind c)))
     (λ e. plain-bytes _ _ p (omega arith))
 
 faulted-bytes : (k : Fault) (c : Control) → InBytes c → InBytes (faulted k c)
@@ -307,9 +353,12 @@ stored-bytes : Bytes (0 ∷ [])
 stored-bytes = cons-bytes 0 [] (omega arith) no-bytes
 
 buffer-bytes : (c : Control) (n : ℕ) → InBytes c → n < 256 → PlanBytes (toBuffer c n)
-unfolding toBuffer
+unfolding toBuffer toPlace
 buffer-bytes c n p h =
-    pick-keeps PlanBytes (isLocked c n) (λ e. plain-bytes _ _ p h) (λ e. record { state = p; put = stored-bytes; said = h })
+    pick-keeps PlanBytes (isLocked c n)
+    (λ e. pick-keeps PlanBytes (isFree c 0) (λ f. record { state = p; put = stored-bytes; said = h })
+    (λ f. pick-keeps PlanBytes (isFree c 1) (λ t. record { state = p; put = stored-bytes; said = h }) (λ t. plain-bytes _ _ p h)))
+    (λ e. record { state = p; put = stored-bytes; said = h })
 
 fifo-bytes : (c : Control) (i : ℕ) → InBytes c → PlanBytes (toFifo c i)
 unfolding toFifo
@@ -324,7 +373,7 @@ counted-bytes : (p : Plan) (k : ℕ) → PlanBytes p → PlanBytes (withLooked p
 counted-bytes p k b = record { state = b .state; put = b .put; said = b .said }
 
 frame-bytes : (c : Control) (hs : List Head) (good : Bool) (i : ℕ) → InBytes c → PlanBytes (received c hs good i)
-unfolding received judged found raiseLast
+unfolding received judged found raiseLast cancel
 frame-bytes c hs good i p =
     pick-keeps PlanBytes (not (c .mode .synced)) (λ e. plain-bytes _ _ p (omega arith))
     (λ e. pick-keeps PlanBytes (not good || eqb i 0) (λ f. plain-bytes _ _ (gisr-raised c _ p (omega arith)) (omega arith))
@@ -342,7 +391,7 @@ slot-bytes c hs i p =
 bus-bytes : (c : Control) (x y : Plan) → InBytes c → PlanBytes x → PlanBytes y → PlanBytes (onBus c x y)
 unfolding onBus
 bus-bytes c x y p q r =
-    pick-keeps PlanBytes (c .mode .init) (λ e. plain-bytes _ _ p (omega arith)) (λ e. pick-keeps PlanBytes (c .mode .slpak) (λ f. q) (λ f. r))
+    pick-keeps PlanBytes (c .mode .init) (λ e. plain-bytes _ _ p (omega arith)) (λ e. pick-keeps PlanBytes (asleep c) (λ f. q) (λ f. r))
 
 -- ---- every step
 
@@ -363,11 +412,11 @@ module _ (c : Control) (hs : List Head) (p : InBytes c) (q : HeadBytes hs) where
   act-bytes (read a) h = record { state = p; put = no-bytes; said = read-byte hs q c (registerAt a) p }
   act-bytes (write a v) h =
       record { state = written-bytes c (registerAt a) v p h; put = moves-in c (regionOf (registerAt a)) v h; said = omega arith }
-  act-bytes (sync k) h = wakes-bytes _ (plain-bytes _ _ (synced-bytes k c hs p) (omega arith))
+  act-bytes (sync k) h = wakes-bytes _ (plain-bytes _ _ (synced-bytes k (cancel c) hs (cancel-bytes c p)) (omega arith))
   act-bytes syncDue h = sleeps-bytes _ (due-bytes c hs p)
   act-bytes (slot i room) h = sleeps-bytes _ (slot-bytes c hs i p)
   act-bytes (frame good f) h = wakes-bytes _ (frame-bytes c hs good (getD f 0 0) p)
-  act-bytes (fault k) h = wakes-bytes _ (plain-bytes _ _ (faulted-bytes k c p) (omega arith))
+  act-bytes (fault k) h = wakes-bytes _ (plain-bytes _ _ (faulted-bytes k (cancel c) (cancel-bytes c p)) (omega arith))
   act-bytes timeout h = sleeps-bytes _ (plain-bytes (timedOut c) Ok p (omega arith))
 
   pub decide-bytes : (e : Step) → valueIn e < 256 → PlanBytes (decide c hs e)

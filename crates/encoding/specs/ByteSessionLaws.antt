@@ -6,14 +6,14 @@ use native.Mathlib.Omega.{arith}
 use lib.ListN.{getD, set, take, drop, replicate}
 use Rattle.masks.specs.PickLaws.{pick-keeps}
 use Rattle.contents.specs.declared.Contents.{Contents}
-use Rattle.contents.specs.Bytes.{Head, blank, noContents, withIdent, withLength, withData, cut, taken, storeFrame}
+use Rattle.contents.specs.Bytes.{Head, blank, noContents, withIdent, withLength, withData, cut, taken, storeFrame, imageOf}
 use Rattle.contents.specs.PayloadLaws.{frame-size}
 use Rattle.rules.specs.Answers.{givenOf, numberIn}
 use Rattle.rules.specs.Steps.{Step, reset, read, write, sync, syncDue, slot, frame, fault, timeout, dataRegister, readsData, valueIn, frameIn, hide}
-use Rattle.rules.specs.Plan.{Move, wipe, setIdent, setLength, setData, store, Reply, say, show, send, Plan}
+use Rattle.rules.specs.Plan.{Move, wipe, setIdent, setLength, setData, store, hold, release, Reply, say, show, send, Plan}
 use Rattle.rules.specs.Rules.{decide}
 use Rattle.controller.specs.declared.Controller.{Controller}
-use Rattle.controller.specs.Carry.{resetState, heads, rowAt, move, moveAll, answerOf, carry}
+use Rattle.controller.specs.Carry.{resetState, heads, rowAt, move, moveAll, holdBy, holdAll, answerOf, carry}
 use Rattle.controller.specs.Session.{stepOf, endBy, endOf}
 use Rattle.controller.specs.ViewLaws.{head-at}
 use Rattle.controller.specs.Calls.{stepFor}
@@ -22,7 +22,7 @@ use Rattle.encoding.specs.Bytes.{Bytes, BringsBytes, AllBytes}
 use Rattle.encoding.specs.ByteListLaws.{set-all, replicate-all, set-bytes, zero-bytes, no-bytes, cons-bytes, drop-bytes, take-bytes, append-bytes}
 use Rattle.encoding.specs.ByteRuleLaws.{InBytes, putBy, saidBy, PlanBytes, HeadBytes, reset-control-bytes, decide-bytes}
 
--- ---- the buffers' bytes
+-- ---- the bytes of the buffers and of the frames that wait
 
 abbrev pub RowBytes : List Contents → Type 0
 RowBytes rows = (n : ℕ) → Bytes (rowAt rows n .bytes)
@@ -30,8 +30,8 @@ RowBytes rows = (n : ℕ) → Bytes (rowAt rows n .bytes)
 row-set : (rows : List Contents) (n : ℕ) (b : Contents) → RowBytes rows → Bytes (b .bytes) → RowBytes (set rows n b)
 row-set rows n b p h = set-all (λ (x : Contents). Bytes (x .bytes)) noContents rows n b p h
 
-blank-rows : RowBytes (replicate 16 blank)
-blank-rows = replicate-all (λ (x : Contents). Bytes (x .bytes)) noContents 16 blank (zero-bytes 14) no-bytes
+blank-rows : (n : ℕ) → RowBytes (replicate n blank)
+blank-rows n = replicate-all (λ (x : Contents). Bytes (x .bytes)) noContents n blank (zero-bytes 14) no-bytes
 
 module _ (b : Contents) (p : Bytes (b .bytes)) where
   rest-bytes : Bytes (drop 2 (b .bytes))
@@ -57,17 +57,40 @@ store-bytes i l d h q =
     cons-bytes i (cut l ∷ (data-part ++ rest)) h
     (cons-bytes (cut l) (data-part ++ rest) (omega arith) (append-bytes data-part rest (take-bytes (taken l d) d q) (zero-bytes (12 - taken l d))))
 
-move-bytes : (e : Step) (m : Move) (rows : List Contents) → BringsBytes e → putBy m < 256 → RowBytes rows → RowBytes (move e m rows)
-move-bytes e wipe rows b h p = blank-rows
-move-bytes e (setIdent n v) rows b h p = row-set rows n _ p (ident-bytes (rowAt rows n) (p n) v h)
-move-bytes e (setLength n v) rows b h p = row-set rows n _ p (length-bytes (rowAt rows n) (p n) v h)
-move-bytes e (setData n j) rows b h p = row-set rows n _ p (data-bytes (rowAt rows n) (p n) j (valueIn e) (b .value))
-move-bytes e (store n) rows b h p = row-set rows n _ p (store-bytes _ (getD (frameIn e) 1 0) _ (b .frame 0) (drop-bytes 2 (frameIn e) (b .frame)))
+-- the frame that a step brings, as it is stored
+image-bytes : (e : Step) → BringsBytes e → Bytes (imageOf (frameIn e) .bytes)
+image-bytes e b = store-bytes _ (getD (frameIn e) 1 0) _ (b .frame 0) (drop-bytes 2 (frameIn e) (b .frame))
 
-moves-bytes : (e : Step) (ms : List Move) (rows : List Contents) → BringsBytes e → Bytes (map putBy ms) → RowBytes rows → RowBytes (moveAll e ms rows)
+move-bytes : (e : Step) (held : List Contents) (m : Move) (rows : List Contents) →
+    BringsBytes e → RowBytes held → putBy m < 256 → RowBytes rows → RowBytes (move e held m rows)
+move-bytes e held wipe rows b w h p = blank-rows 16
+move-bytes e held (setIdent n v) rows b w h p = row-set rows n _ p (ident-bytes (rowAt rows n) (p n) v h)
+move-bytes e held (setLength n v) rows b w h p = row-set rows n _ p (length-bytes (rowAt rows n) (p n) v h)
+move-bytes e held (setData n j) rows b w h p = row-set rows n _ p (data-bytes (rowAt rows n) (p n) j (valueIn e) (b .value))
+move-bytes e held (store n) rows b w h p = row-set rows n _ p (image-bytes e b)
+move-bytes e held (hold k) rows b w h p = p
+move-bytes e held (release k n) rows b w h p = row-set rows n _ p (w k)
+
+moves-bytes : (e : Step) (held : List Contents) (ms : List Move) (rows : List Contents) →
+    BringsBytes e → RowBytes held → Bytes (map putBy ms) → RowBytes rows → RowBytes (moveAll e held ms rows)
 unfolding moveAll
-moves-bytes e [] rows b h p = p
-moves-bytes e (m ∷ ms) rows b h p = moves-bytes e ms (move e m rows) b (λ i. h (suc i)) (move-bytes e m rows b (h 0) p)
+moves-bytes e held [] rows b w h p = p
+moves-bytes e held (m ∷ ms) rows b w h p = moves-bytes e held ms (move e held m rows) b w (λ i. h (suc i)) (move-bytes e held m rows b w (h 0) p)
+
+-- the frames that wait
+hold-bytes : (e : Step) (m : Move) (held : List Contents) → BringsBytes e → RowBytes held → RowBytes (holdBy e m held)
+hold-bytes e wipe held b w = blank-rows 2
+hold-bytes e (setIdent n v) held b w = w
+hold-bytes e (setLength n v) held b w = w
+hold-bytes e (setData n j) held b w = w
+hold-bytes e (store n) held b w = w
+hold-bytes e (hold k) held b w = row-set held k _ w (image-bytes e b)
+hold-bytes e (release k n) held b w = w
+
+holds-bytes : (e : Step) (ms : List Move) (held : List Contents) → BringsBytes e → RowBytes held → RowBytes (holdAll e ms held)
+unfolding holdAll
+holds-bytes e [] held b w = w
+holds-bytes e (m ∷ ms) held b w = holds-bytes e ms (holdBy e m held) b (hold-bytes e m held b w)
 
 head-bytes : (rows : List Contents) → RowBytes rows → HeadBytes (heads rows)
 head-bytes rows p =
@@ -87,10 +110,11 @@ answer-byte e rows (send n) h p = omega (arith, frame-size (rowAt rows n))
 pub record HoldsBytes (c : Controller) : Type 0 where
   pub control : InBytes (c .control)
   pub rows : RowBytes (c .rows)
+  pub held : RowBytes (c .held)
 
 pub reset-bytes : HoldsBytes resetState
 unfolding resetState
-reset-bytes = record { control = reset-control-bytes; rows = blank-rows }
+reset-bytes = record { control = reset-control-bytes; rows = blank-rows 16; held = blank-rows 2 }
 
 hidden-value : (e : Step) → valueIn e < 256 → valueIn (hide e) < 256
 hidden-value reset h = h
@@ -112,7 +136,12 @@ module _ (c : Controller) (e : Step) (h : HoldsBytes c) (b : BringsBytes e) wher
 
   pub step-bytes : HoldsBytes (stepOf c e .next)
   unfolding stepOf carry
-  step-bytes = record { control = plan-bytes .state; rows = moves-bytes e (plan .moves) (c .rows) b (plan-bytes .put) (h .rows) }
+  step-bytes =
+      record {
+        control = plan-bytes .state;
+        rows = moves-bytes e (c .held) (plan .moves) (c .rows) b (h .held) (plan-bytes .put) (h .rows);
+        held = holds-bytes e (plan .moves) (c .held) b (h .held);
+      }
 
   pub detail-byte : numberIn (givenOf (stepOf c e .answer)) < 256
   unfolding stepOf carry

@@ -10,9 +10,9 @@ use Rattle.rules.specs.declared.Fault.the-variants.{Early, Lost, Illegal, Misma
 use Rattle.controller.specs.declared.Call.{Call}
 use Rattle.controller.specs.declared.Call.the-variants.{Reset, Read, Write, Sync, SyncDue, Slot, Frame, Fault, Timeout}
 
--- the bytes of a record for C; the last two of them are for telling apart callers that were built before an answer had a count
+-- the bytes of a record for C
 abbrev pub recordSize : ℕ
-recordSize = 268
+recordSize = 296
 
 -- what a kind and its two numbers stand for
 pub data Asked : Type 0 where

@@ -2,9 +2,9 @@
 pub mod answers;
 pub mod calls;
 
-// The bytes of a record for C: a test holds it to C's sizeof of the same fields, and two more. No function looks at these. They tell a
-// caller apart that was built when an answer had no count, and would take the count for a part of its word.
-pub const SIZE: usize = 268;
+// The bytes of a record for C: a test holds it to C's sizeof of the same fields. It tells callers apart that were built when the record
+// had no waiting places, or an answer no count.
+pub const SIZE: usize = 296;
 
 // Answers that no step of the controller has: 256 times 64 and 65.
 pub const UNKNOWN: u32 = 16384;

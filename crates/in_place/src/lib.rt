@@ -16,13 +16,16 @@ use controller::events;
 use controller::registers;
 use masks::NONE;
 
-// The change carried out: the one buffer whose bytes change, and the control state.
+// The change carried out: the one buffer or waiting place whose bytes change, and the control state.
 fn carry(c: &mut Controller, x: Change) -> Answered
     ensures { λ r. ⌜ (now (c .exit) ≡ changed (now (c .entry)) x .next) × (r ≡ x .answered) ⌝ }
 {
     if x.buffer < NONE {
         let n = x.buffer as usize;
         c.rows[n] = Contents { bytes: x.bytes };
+    } else if x.place < 2 {
+        let k = x.place as usize;
+        c.held[k] = Contents { bytes: x.bytes };
     }
     c.control = x.control;
     x.answered
@@ -37,7 +40,8 @@ fn frame(c: &mut Controller, good: bool, f: &[u8]) -> Answered
     carry(c, x)
 }
 
-// The step of a register write. The control registers, which test code writes most, have a path of their own that looks up no row.
+// The step of a register write. The control registers, which test code writes most, have a path of their own, which reads no buffer's
+// bytes but those of a frame that waits.
 fn write(c: &mut Controller, a: u8, v: u8) -> Answered
     ensures { λ r. ⌜ (now (c .exit) ≡ stepOf (now (c .entry)) (writeStep a v) .next) × (r ≡ answeredOf (stepOf (now (c .entry)) (writeStep a v))) ⌝ }
 {
@@ -49,7 +53,10 @@ fn write(c: &mut Controller, a: u8, v: u8) -> Answered
         carry(c, x)
     } else {
         let d = c.control;
-        let x = registers::control_change(d, a - 0x50, v);
+        let n = a - 0x50;
+        let k = registers::newest_place(d, n);
+        let image = c.held[k];
+        let x = registers::control_change(d, n, v, image);
         carry(c, x)
     }
 }

@@ -1,6 +1,7 @@
 -- What keeps armed buffers as they must be: other modes, heads and locks, a disarmed buffer, a new IFLG, a write of LOCK.
 use mathlib.Core.Path.{_≡_, refl, sym, ap, _∙_}
 use Prim.Native.Nat.{ℕ, _<_}
+use mathlib.Core.List.{List}
 use mathlib.Core.Bool.{true, false, _&&_}
 use borrow.Author.Tests.{ne-eqb}
 use lib.ListN.{set}
@@ -17,9 +18,10 @@ use Rattle.rules.specs.declared.Events.{Events}
 use Rattle.rules.specs.declared.Fifo.{Fifo}
 use Rattle.rules.specs.declared.Control.{Control}
 use Rattle.rules.specs.Record.{withFifo, withReceive, withTransmit}
+use Rattle.rules.specs.declared.Places.{Places}
 use Rattle.rules.specs.Kinds.{isTransmit, isArmed, isLocked}
 use Rattle.rules.specs.Modes.{enter}
-use Rattle.rules.specs.Writes.{disarm, lockFifo, releaseFifo, unlock}
+use Rattle.rules.specs.Writes.{disarm, lockFifo, releaseFifo, releaseAll}
 use Rattle.controller.specs.View.{View}
 use Rattle.invariants.specs.Sound.{Armed, ArmingSound}
 use Rattle.invariants.specs.KeptLaws.{at, flagged}
@@ -43,10 +45,10 @@ module _ (w : View) (s : ArmingSound w) where
   c = w .control
 
   -- of mode, configuration and events only synchronization counts
-  pub same-arming : (m : Mode) (g : Config) (e : Events) → m .synced ≡ c .mode .synced →
-      ArmingSound (at w (record { mode = m; config = g; events = e; fifo = c .fifo; receive = c .receive; transmit = c .transmit; buffers = c .buffers }))
+  pub same-arming : (m : Mode) (g : Config) (e : Events) (p : Places) → m .synced ≡ c .mode .synced →
+      ArmingSound (at w (record { mode = m; config = g; events = e; fifo = c .fifo; receive = c .receive; transmit = c .transmit; places = p; buffers = c .buffers }))
   unfolding isLocked
-  same-arming m g e y =
+  same-arming m g e p y =
       record {
         armed = λ n b a.
             let q = s .armed n b a in
@@ -54,7 +56,7 @@ module _ (w : View) (s : ArmingSound w) where
       }
 
   -- another head at a place that can't be armed
-  pub head-arming : (p : ℕ) (h : Head) → ((n : ℕ) → Armed w n → n ≡ p → ⊥) → ArmingSound (record { control = c; heads = set (w .heads) p h })
+  pub head-arming : (p : ℕ) (h : Head) → ((n : ℕ) → Armed w n → n ≡ p → ⊥) → ArmingSound (record { control = c; heads = set (w .heads) p h; held = w .held })
   head-arming p h away =
       record {
         armed = λ n b a.
@@ -66,6 +68,15 @@ module _ (w : View) (s : ArmingSound w) where
               named = ap (λ (x : Head). eqb (x .ident) 0) (head-other (w .heads) p h n (away n q)) ∙ q .named;
               synced = q .synced;
             };
+      }
+
+  -- other frames held
+  pub held-arming : (ps : List Head) → ArmingSound (record { control = c; heads = w .heads; held = ps })
+  held-arming ps =
+      record {
+        armed = λ n b a.
+            let q = s .armed n b a in
+            record { transmit = q .transmit; full = q .full; unlocked = q .unlocked; named = q .named; synced = q .synced };
       }
 
   -- other locks that lock no armed buffer
@@ -157,8 +168,8 @@ module _ (w : View) (s : ArmingSound w) (n : ℕ) where
   fifo-released k e =
       pick-keeps (λ (f : Fifo). (f .locked && eqb k (f .oldest)) ≡ false) (d .fifo .locked && eqb n (d .fifo .oldest)) (λ t. refl) (λ t. e)
 
-  pub unlock-arming : ArmingSound (at w (unlock d n))
-  unfolding unlock
+  pub unlock-arming : ArmingSound (at w (releaseAll d n))
+  unfolding releaseAll
   unlock-arming =
       locks-arming w s (releaseLock (d .receive) n) (releaseLock (d .transmit) n) (releaseFifo d n) (λ k b a q u.
       record {

@@ -3,6 +3,7 @@
 use mathlib.Core.Path.{_≡_, refl, sym, ap, _∙_}
 use Prim.Native.Nat.{ℕ, _<_, _≤_}
 use mathlib.Core.Bool.{true, false, _&&_, not}
+use mathlib.Core.List.{List}
 use borrow.Author.Tests.{ne-eqb}
 use lib.ListN.{set, length, length-set}
 use lib.Dec.{eqb, leb}
@@ -18,7 +19,7 @@ use Rattle.rules.specs.Record.{withFifo, withReceive, withTransmit}
 use Rattle.rules.specs.Registers.{emptyFifo}
 use Rattle.rules.specs.Kinds.{isTransmit, isReceive, hasIflg}
 use Rattle.rules.specs.Modes.{enter}
-use Rattle.rules.specs.Writes.{releaseFifo, withoutOldest, unlock}
+use Rattle.rules.specs.Writes.{releaseFifo, withoutOldest, releaseAll}
 use Rattle.rules.specs.Plan.{headAt}
 use Rattle.controller.specs.View.{View}
 use Rattle.invariants.specs.Sound.{isEntry, ContentsSound}
@@ -96,8 +97,19 @@ module _ (w : View) (s : ContentsSound w) where
 
   -- ---- LOCK
 
-  pub unlock-contents : (n : ℕ) → (0 < c .config .fsiz → c .fifo .oldest < c .config .fsiz) → c .fifo .count ≤ c .config .fsiz → ContentsSound (at w (unlock c n))
-  unfolding unlock releaseFifo
+  -- other frames held
+  pub held-contents : (ps : List Head) → ContentsSound (record { control = c; heads = w .heads; held = ps })
+  held-contents ps =
+      record {
+        sixteen = s .sixteen;
+        length-le = s .length-le;
+        received-le = s .received-le;
+        entry-le = s .entry-le;
+        entry-unmatched = s .entry-unmatched;
+      }
+
+  pub unlock-contents : (n : ℕ) → (0 < c .config .fsiz → c .fifo .oldest < c .config .fsiz) → c .fifo .count ≤ c .config .fsiz → ContentsSound (at w (releaseAll c n))
+  unfolding releaseAll releaseFifo
   unlock-contents n first fits =
       let freed : Fifo → Control = λ f. withFifo (withTransmit (withReceive c (releaseLock (c .receive) n)) (releaseLock (c .transmit) n)) f in
       pick-keeps (λ (f : Fifo). ContentsSound (at w (freed f))) (c .fifo .locked && eqb n (c .fifo .oldest))
@@ -120,7 +132,7 @@ pub record Fits (w : View) (d : Control) (p : ℕ) (h : Head) : Type 0 where
   pub as-entry : isEntry d p ≡ true → (n : ℕ) → n < 16 → isReceive d n ≡ true → (n ≡ p → ⊥) → eqb (headAt (w .heads) n .ident) (h .ident) ≡ false
   pub as-receive : isReceive d p ≡ true → (m : ℕ) → isEntry d m ≡ true → (m ≡ p → ⊥) → eqb (h .ident) (headAt (w .heads) m .ident) ≡ false
 
-pub put-contents : (w : View) (d : Control) (p : ℕ) (h : Head) → ContentsSound w → p < 16 → Fits w d p h → ContentsSound (record { control = d; heads = set (w .heads) p h })
+pub put-contents : (w : View) (d : Control) (p : ℕ) (h : Head) → ContentsSound w → p < 16 → Fits w d p h → ContentsSound (record { control = d; heads = set (w .heads) p h; held = w .held })
 put-contents w d p h s b q =
     record {
       sixteen = length-set (w .heads) p h ∙ s .sixteen;

@@ -1,6 +1,6 @@
 -- Under a lawful layout the dedicated receive buffers up to one of them, n, are those from FSIZ to n; and what a frame's plan reports
 -- where a dedicated receive buffer carries the frame's identifier.
-use mathlib.Core.Path.{_≡_, refl, sym, ap, ap₂, _∙_}
+use mathlib.Core.Path.{_≡_, refl, sym, ap, _∙_}
 use Prim.Native.Nat.{ℕ, zero, suc, _+_, _-_, _<_, _≤_, min}
 use mathlib.Core.Bool.{Bool, true, false, _&&_, _||_, not, and-false, false≢true}
 use mathlib.Core.List.{List}
@@ -17,7 +17,9 @@ use Rattle.contents.specs.Bytes.{Head}
 use Rattle.rules.specs.declared.Control.{Control}
 use Rattle.rules.specs.Answers.{givenOf, numberIn, isFound}
 use Rattle.rules.specs.Kinds.{isTransmit, isReceive, isLocked, isLawful}
-use Rattle.rules.specs.Bus.{lookup, toBuffer, fifoTakes, toFifo, raiseLast, examined, found, judged, received}
+use Rattle.rules.specs.Waiting.{asleep, isFree}
+use Rattle.rules.specs.Modes.{cancel}
+use Rattle.rules.specs.Bus.{lookup, toPlace, toBuffer, fifoTakes, toFifo, raiseLast, examined, found, judged, received}
 use Rattle.rules.specs.Refusals.{refusal}
 use Rattle.rules.specs.Steps.{Step, frame}
 use Rattle.rules.specs.Plan.{Reply, say, show, send, Plan, withLooked}
@@ -95,10 +97,13 @@ module _ (c : Control) where
   other n p e = record { finds = λ t. absurd (false≢true (sym e ∙ t)) }
 
   buffer-finds : (i n : ℕ) → n < 16 → c .mode .init ≡ false → Finds c n (withLooked (toBuffer (raiseLast c i) n) (examined c n))
-  unfolding toBuffer
+  unfolding toBuffer toPlace
   buffer-finds i n h o =
       pick-keeps (λ (p : Plan). Finds c n (withLooked p (examined c n))) (isLocked (raiseLast c i) n)
-      (λ t. record { finds = λ x. (refl, h, o, refl) }) (λ t. record { finds = λ x. (refl, h, o, refl) })
+      (λ t. pick-keeps (λ (p : Plan). Finds c n (withLooked p (examined c n))) (isFree (raiseLast c i) 0) (λ u. record { finds = λ x. (refl, h, o, refl) })
+      (λ u. pick-keeps (λ (p : Plan). Finds c n (withLooked p (examined c n))) (isFree (raiseLast c i) 1) (λ y. record { finds = λ x. (refl, h, o, refl) })
+      (λ y. record { finds = λ x. (refl, h, o, refl) })))
+      (λ t. record { finds = λ x. (refl, h, o, refl) })
 
   fifo-finds : (i n k : ℕ) → Finds c n (withLooked (toFifo (raiseLast c i) i) k)
   unfolding toFifo
@@ -107,18 +112,26 @@ module _ (c : Control) where
       (λ t. pick-keeps (λ (p : Plan). Finds c n (withLooked p k)) (leb (raiseLast c i .config .fsiz) (raiseLast c i .fifo .count)) (λ u. other n _ refl) (λ u. other n _ refl))
       (λ t. other n _ refl)
 
+module _ (c : Control) where
+  -- cancelling SLPRQ changes nothing that is said here
+  from-cancelled : (n : ℕ) (p : Plan) → Finds (cancel c) n p → Finds c n p
+  unfolding cancel examined
+  from-cancelled n p q = record { finds = q .finds }
+
   judged-finds : (good : Bool) (i n : ℕ) → c .mode .init ≡ false → Finds c n (judged c good i n)
-  unfolding judged found
+  unfolding judged found cancel
   judged-finds good i n o =
-      pick-keeps (Finds c n) (not (c .mode .synced)) (λ t. other n _ refl)
-      (λ t. pick-keeps (Finds c n) (not good || eqb i 0) (λ u. other n _ refl)
-      (λ u. pick-keeps (λ (p : Plan). Finds c n (withLooked p (examined c n))) (ltb n 16) (λ x. buffer-finds i n (ltb-true n 16 x) o) (λ x. fifo-finds i n _)))
+      let d = cancel c in
+      pick-keeps (Finds c n) (not (c .mode .synced)) (λ t. other c n _ refl)
+      (λ t. pick-keeps (Finds c n) (not good || eqb i 0) (λ u. other c n _ refl)
+      (λ u. from-cancelled n _ (pick-keeps (λ (p : Plan). Finds d n (withLooked p (examined d n))) (ltb n 16)
+      (λ x. buffer-finds d i n (ltb-true n 16 x) o) (λ x. fifo-finds d i n _))))
 
   pub frame-finds : (hs : List Head) (good : Bool) (f : List ℕ) → Finds c (lookup c hs (getD f 0 0)) (decide c hs (frame good f))
   unfolding decide act onBus received
   frame-finds hs good f =
       let n = lookup c hs (getD f 0 0) in
       pick-keeps (Finds c n) (eqb (refusal c (frame good f)) 0)
-      (λ t. pick-keeps (Finds c n) (c .mode .init) (λ u. other n _ refl)
-      (λ u. pick-keeps (Finds c n) (c .mode .slpak) (λ x. other n _ refl) (λ x. judged-finds good (getD f 0 0) n u)))
-      (λ t. other n _ refl)
+      (λ t. pick-keeps (Finds c n) (c .mode .init) (λ u. other c n _ refl)
+      (λ u. pick-keeps (Finds c n) (asleep c) (λ x. other c n _ refl) (λ x. judged-finds good (getD f 0 0) n u)))
+      (λ t. other c n _ refl)

@@ -1,8 +1,9 @@
 -- Every rule keeps the control bits of the buffers: ABTAK only beside IFLG and on a transmit buffer, no IFLG on a FIFO
 -- buffer.
-use mathlib.Core.Path.{_≡_, refl, sym, ap, _∙_}
+use mathlib.Core.Path.{_≡_, refl, sym, ap, _∙_, subst}
 use Prim.Native.Nat.{ℕ, _<_}
 use mathlib.Core.Bool.{Bool, true, false, _&&_, _||_, not}
+use native.Mathlib.Omega.{arith}
 use borrow.Author.Tests.{not-true, le-ltb, leb-true}
 use lib.Dec.{ltb, leb}
 use Rattle.masks.specs.Pick.{pick}
@@ -13,9 +14,11 @@ use Rattle.rules.specs.declared.Fault.the-variants.{Early, Lost, Illegal, Misma
 use Rattle.rules.specs.declared.Control.{Control}
 use Rattle.rules.specs.Registers.{has, resetControl, IFLG, ABTRQ}
 use Rattle.rules.specs.Kinds.{isTransmit, isFifo, hasIflg, isFullTransmit}
-use Rattle.rules.specs.Modes.{enter, leave, wake}
-use Rattle.rules.specs.Writes.{unlock, cfgAfter, writeCfg, writeIena, writeIflg, writeAbtrq}
+use Rattle.rules.specs.Waiting.{waitsFor}
+use Rattle.rules.specs.Modes.{enter, leave, wake, cancel}
+use Rattle.rules.specs.Writes.{releaseAll, cfgAfter, writeCfg, writeIena, writeIflg, writeAbtrq}
 use Rattle.rules.specs.Bus.{synced, timedOut, faulted, raiseLast, lookup, offers}
+use Rattle.rules.specs.Plan.{headAt}
 use Rattle.controller.specs.View.{View}
 use Rattle.invariants.specs.Sound.{Sound, BitsSound, Idle}
 use Rattle.invariants.specs.KeptLaws.{Kept, prepared, resetView}
@@ -180,14 +183,22 @@ module _ (w : View) (s : Sound w) where
       transmit-outside (w .control .buffers .cfg) (w .control .config .fsiz) n
       (s .arming .armed n h (sent-armed (w .control) (w .heads) i n e h) .transmit)
 
+  -- nor is a buffer that a frame waits for
+  waits-outside : (k n : ℕ) → k < 2 → n < 16 → waitsFor (w .control .places) k ≡ n → isFifo (w .control) n ≡ false
+  waits-outside k n b h e =
+      let q = s .places .waiting k b (omega arith) in
+      subst (λ (m : ℕ). isFifo (w .control) m ≡ false) (q .lowest-named ∙ e)
+      (lookup-outside (headAt (w .held) k .ident) (let l = q .lowest-named in omega arith))
+
   pub bits-kept : Kept BitsSound w
-  unfolding leave wake synced timedOut faulted raiseLast unlock
+  unfolding leave wake cancel synced timedOut faulted raiseLast releaseAll
   bits-kept =
       record {
         rewrites = λ v. sound-of now;
         leaves = λ i l. sound-of (flag-all now);
         enters = sound-of (enter-bits _);
         sleeps = λ i. sound-of now;
+        cancels = sound-of now;
         wakes = λ i. sound-of now;
         resizes = λ k i h u. sound-of (idle-set (s .modes .idle i) (w .control .buffers .cfg) k);
         configures = λ g e only. sound-of (rw e now);
@@ -201,13 +212,15 @@ module _ (w : View) (s : Sound w) where
         locks-transmit = λ n h u t. sound-of now;
         locks-receive = λ n h u t r o. sound-of now;
         locks-fifo = λ n h t o e. sound-of now;
-        unlocks = λ n h. sound-of now;
+        delivers = λ k n b h e. sound-of (flag-set now n (waits-outside k n b h e));
+        unlocks = λ n h f g. sound-of now;
         syncs = λ k i. sound-of now;
         times-out = sound-of now;
         faults = λ k i. sound-of (elim k [ Early ↦ now | Lost ↦ now | Illegal ↦ now | Mismatch ↦ now ]);
         raises = λ b only i. sound-of now;
         passes = λ i t. sound-of now;
         overruns = λ i t. sound-of now;
+        holds = λ i l k t h u b f. sound-of now;
         stores = λ i l t y h u. sound-of (flag-set now (lookup (w .control) (w .heads) i) (lookup-outside i h));
         queues = λ i l t y z u f. sound-of now;
         sends = λ i n t e h. sound-of (flag-set now n (sent-outside i n e h));

@@ -1,6 +1,6 @@
 -- Every rule keeps the lengths and identifiers of received frames: at most 12, and none in the FIFO with an identifier of a
 -- receive buffer.
-use mathlib.Core.Path.{_≡_, refl, sym, ap, _∙_}
+use mathlib.Core.Path.{_≡_, refl, sym, ap, _∙_, subst}
 use Prim.Native.Nat.{ℕ, zero, suc, _<_, _≤_}
 use mathlib.Core.Bool.{Bool, true, false, _&&_, _||_, not}
 use native.Mathlib.Omega.{arith}
@@ -11,29 +11,30 @@ use Rattle.masks.specs.PickLaws.{by-test}
 use Rattle.masks.specs.Bits.{bitOf, highest}
 use Rattle.masks.specs.Laws.{bit-mask, put-other}
 use Rattle.masks.specs.SearchLaws.{never-both}
-use Rattle.locks.specs.Pair.{takeLock}
 use Rattle.contents.specs.Bytes.{Head, noHead, cut}
 use Rattle.rules.specs.declared.SyncKind.{SyncKind}
 use Rattle.rules.specs.declared.Fault.{Fault}
 use Rattle.rules.specs.declared.Fault.the-variants.{Early, Lost, Illegal, Mismatch}
 use Rattle.rules.specs.declared.Buffers.{Buffers}
 use Rattle.rules.specs.declared.Control.{Control}
-use Rattle.rules.specs.Record.{withMode, withConfig, withEvents, withFifo, withReceive, withTransmit, withBuffers, withFsiz, withSleep, withLast}
+use Rattle.rules.specs.Record.{withMode, withConfig, withEvents, withFifo, withReceive, withTransmit, withPlaces, withBuffers, withFsiz, withSlprq, withLast}
 use Rattle.rules.specs.Registers.{resetControl, OVRNIF}
 use Rattle.rules.specs.Kinds.{isTransmit, isReceive, hasIflg}
+use Rattle.rules.specs.Waiting.{waitsFor, storedFrom, occupied}
 use Rattle.rules.specs.Flags.{writeRisr, writeGisr}
-use Rattle.rules.specs.Modes.{leave, wake}
+use Rattle.rules.specs.Modes.{leave, wake, cancel}
 use Rattle.rules.specs.Writes.{disarm, lockFifo}
+use Rattle.locks.specs.Pair.{takeLock}
 use Rattle.rules.specs.Bus.{raiseGisr, synced, timedOut, faulted, lookup, raiseLast, withEntry, offers, sentFrom}
 use Rattle.rules.specs.Plan.{headAt}
 use Rattle.controller.specs.View.{View}
 use Rattle.invariants.specs.Sound.{isEntry, ContentsSound, Sound}
-use Rattle.invariants.specs.KeptLaws.{at, rewritten, putHead, flagged, resetView, Kept}
+use Rattle.invariants.specs.KeptLaws.{at, put, rewritten, putHead, flagged, resetView, Kept}
 use Rattle.invariants.specs.TestLaws.{or-cases}
 use Rattle.invariants.specs.ViewLaws.{head-cases, lawful-low, receive-kind, receive-high, found-receive, found-ident, unfound, sent-armed}
 use Rattle.invariants.specs.ControlWriteLaws.{Prepared, prepared-kind, prepared-by}
 use Rattle.invariants.specs.EntryLaws.{entry-same, entry-none, entry-low, entry-queued, entry-kind}
-use Rattle.invariants.specs.ContentsLaws.{marks, idle-contents, less-contents, same-contents, enter-contents, flag-contents, unlock-contents, put-contents}
+use Rattle.invariants.specs.ContentsLaws.{marks, idle-contents, less-contents, same-contents, enter-contents, flag-contents, held-contents, unlock-contents, put-contents}
 
 module _ (w : View) (s : Sound w) where
   abbrev c : Control
@@ -55,7 +56,7 @@ module _ (w : View) (s : Sound w) where
       (λ i. never-both (isTransmit c m) t (lawful-low c m (s .modes .lawful i) (s .fifo .size-le) (entry-low c m e)))
 
   -- the head of a transmit buffer
-  sent-head : (p : ℕ) (h : Head) → p < 16 → isTransmit c p ≡ true → h .len ≤ 15 → ContentsSound (record { control = c; heads = set (w .heads) p h })
+  sent-head : (p : ℕ) (h : Head) → p < 16 → isTransmit c p ≡ true → h .len ≤ 15 → ContentsSound (record { control = c; heads = set (w .heads) p h; held = w .held })
   sent-head p h b kind l =
       put-contents w c p h (s .contents) b
       (record {
@@ -70,10 +71,10 @@ module _ (w : View) (s : Sound w) where
       })
 
   -- the head of a receive buffer, in initialization
-  init-head : (p : ℕ) (h : Head) → p < 16 → c .mode .init ≡ true → h .len ≤ 15 → ContentsSound (record { control = c; heads = set (w .heads) p h })
+  init-head : (p : ℕ) (h : Head) → p < 16 → c .mode .init ≡ true → h .len ≤ 15 → ContentsSound (record { control = c; heads = set (w .heads) p h; held = w .held })
   init-head p h b i l =
       let idle = s .modes .idle i in
-      idle-contents (record { control = c; heads = set (w .heads) p h }) (idle .iflg) (idle .fifo)
+      idle-contents (record { control = c; heads = set (w .heads) p h; held = w .held }) (idle .iflg) (idle .fifo)
       (length-set (w .heads) p h ∙ s .contents .sixteen)
       (λ n. head-cases (w .heads) p h (s .contents .sixteen) b (λ (x : Head). x .len ≤ 15) n (λ e. l) (λ ne. s .contents .length-le n))
 
@@ -126,31 +127,50 @@ module _ (w : View) (s : Sound w) where
   unfolding raiseLast
   passes-contents i = same-contents w (s .contents) (raiseLast c i) refl
 
-  -- the frame's buffer has its identifier already
-  stores-contents : (i l : ℕ) → lookup c (w .heads) i < 16 →
-      ContentsSound (record { control = flagged (raiseLast c i) (lookup c (w .heads) i); heads = putHead w (lookup c (w .heads) i) i (cut l) })
-  unfolding raiseLast
-  stores-contents i l b =
-      let p = lookup c (w .heads) i in
-      let x = flagged (raiseLast c i) p in
-      let kind = found-receive c (w .heads) i b in
+  -- a frame with the head h stored in a receive buffer p, which has its identifier already
+  stored-contents : (p : ℕ) (h : Head) → p < 16 → isReceive c p ≡ true → headAt (w .heads) p .ident ≡ h .ident → h .len ≤ 12 →
+      ContentsSound (record { control = flagged c p; heads = set (w .heads) p h; held = w .held })
+  stored-contents p h b kind named short =
+      let x = flagged c p in
       let entry : (m : ℕ) → isEntry x m ≡ true → isEntry c m ≡ true = λ m e. sym (entry-same c m x refl refl refl) ∙ e in
-      put-contents w x p (record { ident = i; len = cut l }) (s .contents) b
+      put-contents w x p h (s .contents) b
       (record {
         len-le = omega arith;
-        received = λ r f. omega arith;
-        entry = λ e. omega arith;
+        received = λ r f. short;
+        entry = λ e. short;
         kind = λ n r. r;
         received-other = λ n a ne r f. sym (put-other (c .buffers .iflg) p true n (ne-eqb n p ne) a) ∙ f;
         entry-other = λ m ne e. entry m e;
         as-entry = λ e n a r ne. absurd (entry-kind c p p (entry p e) kind refl);
         as-receive = λ r m e ne.
-            ap (λ (x : ℕ). eqb x (headAt (w .heads) m .ident)) (sym (found-ident c (w .heads) i b)) ∙ s .contents .entry-unmatched m p (entry m e) b kind;
+            ap (λ (x : ℕ). eqb x (headAt (w .heads) m .ident)) (sym named) ∙ s .contents .entry-unmatched m p (entry m e) b kind;
       })
+
+  stores-contents : (i l : ℕ) → lookup c (w .heads) i < 16 →
+      ContentsSound (put w (flagged (raiseLast c i) (lookup c (w .heads) i)) (lookup c (w .heads) i) i (cut l))
+  unfolding raiseLast
+  stores-contents i l b =
+      let p = lookup c (w .heads) i in
+      same-contents (put w (flagged c p) p i (cut l))
+      (stored-contents p (record { ident = i; len = cut l }) b (found-receive c (w .heads) i b) (found-ident c (w .heads) i b) (omega arith))
+      (flagged (raiseLast c i) p) refl
+
+  -- a frame that waited
+  delivers-contents : (k n : ℕ) → k < 2 → n < 16 → waitsFor (c .places) k ≡ n →
+      ContentsSound (put w (storedFrom c k n) n (headAt (w .held) k .ident) (headAt (w .held) k .len))
+  delivers-contents k n b h e =
+      let i = headAt (w .held) k .ident in
+      let q = s .places .waiting k b (omega arith) in
+      let l = q .lowest-named in
+      let f : lookup c (w .heads) i < 16 = omega arith in
+      let kind : isReceive c n ≡ true = subst (λ (m : ℕ). isReceive c m ≡ true) (l ∙ e) (found-receive c (w .heads) i f) in
+      let named : headAt (w .heads) n .ident ≡ i = subst (λ (m : ℕ). headAt (w .heads) m .ident ≡ i) (l ∙ e) (found-ident c (w .heads) i f) in
+      same-contents (put w (flagged c n) n i (headAt (w .held) k .len))
+      (stored-contents n (headAt (w .held) k) h kind named (q .short)) (storedFrom c k n) refl
 
   -- the new entry stands in the next place, which is below FSIZ
   queues-contents : (i l : ℕ) → 16 ≤ lookup c (w .heads) i → c .fifo .count < c .config .fsiz →
-      ContentsSound (record { control = withFifo (raiseLast c i) (withEntry c); heads = putHead w (c .fifo .next) i (cut l) })
+      ContentsSound (record { control = withFifo (raiseLast c i) (withEntry c); heads = putHead w (c .fifo .next) i (cut l); held = w .held })
   unfolding raiseLast
   queues-contents i l none room =
       let x = withFifo (raiseLast c i) (withEntry c) in
@@ -180,7 +200,7 @@ module _ (w : View) (s : Sound w) where
   -- ---- every rule
 
   pub contents-kept : Kept ContentsSound w
-  unfolding timedOut raiseLast
+  unfolding cancel timedOut raiseLast
   contents-kept =
       let hs = w .heads in
       let p = c .transmit .holder in
@@ -190,7 +210,8 @@ module _ (w : View) (s : Sound w) where
         rewrites = λ v. same (rewritten c v) refl;
         leaves = λ i h. leaves-contents;
         enters = enter-contents w (s .contents) c;
-        sleeps = λ i. same (withMode c (withSleep (c .mode) true)) refl;
+        sleeps = λ i. same (withMode c (withSlprq (c .mode) true)) refl;
+        cancels = same (cancel c) refl;
         wakes = λ i. wakes-contents c refl;
         resizes = λ f i h m. init-contents (withConfig c (withFsiz (c .config) f)) i refl refl;
         configures = λ g e only. same (withConfig c g) (ap (λ (f : ℕ). marks (withConfig c (withFsiz (c .config) f))) e);
@@ -204,13 +225,15 @@ module _ (w : View) (s : Sound w) where
         locks-transmit = λ n h u t. same (withTransmit (disarm c n) (takeLock (c .transmit) n)) refl;
         locks-receive = λ n h u t k o. same (withReceive c (takeLock (c .receive) n)) refl;
         locks-fifo = λ n h t o e. same (withFifo c (lockFifo (c .fifo))) refl;
-        unlocks = λ n h. unlock-contents w (s .contents) n (s .fifo .oldest-lt) (s .fifo .count-le);
+        delivers = delivers-contents;
+        unlocks = λ n h f g. unlock-contents w (s .contents) n (s .fifo .oldest-lt) (s .fifo .count-le);
         syncs = λ k i. syncs-contents k;
         times-out = same (timedOut c) refl;
         faults = λ k i. faults-contents k;
         raises = λ b only i. same (raiseGisr c b) refl;
         passes = λ i o. passes-contents i;
         overruns = λ i o. same (raiseGisr (raiseLast c i) OVRNIF) refl;
+        holds = λ i l k o b u z f. held-contents _ (same (withPlaces (raiseLast c i) (occupied (c .places) k (lookup c hs i))) refl) _;
         stores = λ i l o y b u. stores-contents i l b;
         queues = λ i l o y z n room. queues-contents i l n room;
         sends = λ i n o e b. sends-contents i n e b;

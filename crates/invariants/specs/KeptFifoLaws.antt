@@ -12,8 +12,8 @@ use Rattle.rules.specs.declared.Fifo.{Fifo}
 use Rattle.rules.specs.declared.Control.{Control}
 use Rattle.rules.specs.Registers.{emptyFifo, resetControl}
 use Rattle.rules.specs.Kinds.{placeAfter}
-use Rattle.rules.specs.Modes.{enter, leave, wake}
-use Rattle.rules.specs.Writes.{lockFifo, unlock, releaseFifo}
+use Rattle.rules.specs.Modes.{enter, leave, wake, cancel}
+use Rattle.rules.specs.Writes.{lockFifo, releaseAll, releaseFifo}
 use Rattle.rules.specs.Bus.{synced, timedOut, faulted, raiseLast}
 use Rattle.controller.specs.View.{View}
 use Rattle.invariants.specs.Sound.{RingSound, FifoSound, Sound}
@@ -129,7 +129,7 @@ release-ring c n r = pick-keeps (RingSound (c .config .fsiz)) (c .fifo .locked &
 -- ---- every rule
 
 pub fifo-kept : (w : View) → Sound w → Kept FifoSound w
-unfolding leave wake synced timedOut faulted raiseLast unlock
+unfolding leave wake cancel synced timedOut faulted raiseLast releaseAll
 fifo-kept w s =
     let c = w .control in
     let r = s .fifo in
@@ -138,6 +138,7 @@ fifo-kept w s =
       leaves = λ i e. r;
       enters = enter-ring _ r;
       sleeps = λ i. r;
+      cancels = r;
       wakes = λ i. r;
       resizes = λ size i b still. subst (RingSound size) (sym (s .modes .idle i .fifo)) (empty-ring size b);
       configures = λ g e only. subst (λ (size : ℕ). RingSound size (c .fifo)) (sym e) r;
@@ -151,13 +152,15 @@ fifo-kept w s =
       locks-transmit = λ n h u k. r;
       locks-receive = λ n h u k q o. r;
       locks-fifo = λ n h k some e. lock-ring (c .config .fsiz) (c .fifo) r some;
-      unlocks = λ n h. release-ring c n r;
+      delivers = λ k n b h e. r;
+      unlocks = λ n h f g. release-ring c n r;
       syncs = λ k i. r;
       times-out = r;
       faults = λ k i. elim k [ Early ↦ r | Lost ↦ r | Illegal ↦ r | Mismatch ↦ r ];
       raises = λ b only i. r;
       passes = λ i e. r;
       overruns = λ i e. r;
+      holds = λ i l k e h z b f. r;
       stores = λ i l e f h k. r;
       queues = λ i l e f z m room. add-ring (c .config .fsiz) (c .fifo) r room;
       sends = λ i n e f h. r;

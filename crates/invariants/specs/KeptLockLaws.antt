@@ -18,8 +18,8 @@ use Rattle.rules.specs.declared.Control.{Control}
 use Rattle.rules.specs.Record.{withConfig, withBuffers, withFsiz}
 use Rattle.rules.specs.Registers.{resetControl}
 use Rattle.rules.specs.Kinds.{isTransmit, isReceive, isLocked}
-use Rattle.rules.specs.Modes.{enter, leave, wake}
-use Rattle.rules.specs.Writes.{cfgAfter, unlock}
+use Rattle.rules.specs.Modes.{enter, leave, wake, cancel}
+use Rattle.rules.specs.Writes.{cfgAfter, releaseAll}
 use Rattle.rules.specs.Bus.{synced, timedOut, faulted, raiseLast}
 use Rattle.rules.specs.Refusals.{movedByFsiz, movedByCfg}
 use Rattle.controller.specs.View.{View}
@@ -96,8 +96,8 @@ kinds-stay kind after l stay s =
 -- ---- both pairs
 
 -- the pairs alone make a view's locks sound, whatever its other parts
-locks-by : {c : Control} {hs : List Head} → PairSound (isReceive c) (c .receive) → PairSound (isTransmit c) (c .transmit) →
-    LocksSound (record { control = c; heads = hs })
+locks-by : {c : Control} {hs ps : List Head} → PairSound (isReceive c) (c .receive) → PairSound (isTransmit c) (c .transmit) →
+    LocksSound (record { control = c; heads = hs; held = ps })
 locks-by r t = record { receive = r; transmit = t }
 
 -- ---- FSIZ
@@ -152,7 +152,7 @@ enter-locks w c s = locks-by (s .receive) (s .transmit)
 -- ---- every rule
 
 pub locks-kept : (w : View) → Sound w → Kept LocksSound w
-unfolding leave wake synced timedOut faulted raiseLast unlock
+unfolding leave wake cancel synced timedOut faulted raiseLast releaseAll
 locks-kept w s =
     let c = w .control in
     let r = s .locks .receive in
@@ -162,6 +162,7 @@ locks-kept w s =
       leaves = λ i e. locks-by r t;
       enters = enter-locks w _ (locks-by r t);
       sleeps = λ i. locks-by r t;
+      cancels = locks-by r t;
       wakes = λ i. locks-by r t;
       resizes = λ size i b still. resize-keeps w size still (s .locks);
       configures = λ g e only.
@@ -176,13 +177,15 @@ locks-kept w s =
       locks-transmit = λ n h u k. locks-by r (take-sound (isTransmit c) (c .transmit) n t h k (unlocked-parts c n u .transmit));
       locks-receive = λ n h u k q o. locks-by (take-sound (isReceive c) (c .receive) n r h q (unlocked-parts c n u .receive)) t;
       locks-fifo = λ n h k o e. locks-by r t;
-      unlocks = λ n h. locks-by (release-sound (isReceive c) (c .receive) n r) (release-sound (isTransmit c) (c .transmit) n t);
+      delivers = λ k n b h e. locks-by r t;
+      unlocks = λ n h f g. locks-by (release-sound (isReceive c) (c .receive) n r) (release-sound (isTransmit c) (c .transmit) n t);
       syncs = λ k i. locks-by r t;
       times-out = locks-by r t;
       faults = λ k i. elim k [ Early ↦ locks-by r t | Lost ↦ locks-by r t | Illegal ↦ locks-by r t | Mismatch ↦ locks-by r t ];
       raises = λ b only i. locks-by r t;
       passes = λ i e. locks-by r t;
       overruns = λ i e. locks-by r t;
+      holds = λ i l k e h z b f. locks-by r t;
       stores = λ i l e f h k. locks-by r t;
       queues = λ i l e f z m h. locks-by r t;
       sends = λ i n e f h. locks-by r t;

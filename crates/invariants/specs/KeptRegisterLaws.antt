@@ -18,8 +18,8 @@ use Rattle.rules.specs.declared.Control.{Control}
 use Rattle.rules.specs.Record.{withConfig, withBuffers}
 use Rattle.rules.specs.Registers.{has, resetControl, IENA, SLMMIF, XSYNIF, OVRNIF, SYNEIF, SYNLIF, ILLPIF}
 use Rattle.rules.specs.Flags.{risrEvents, gisrEvents, cleared, writeRisr, defersClear, writeGisr}
-use Rattle.rules.specs.Modes.{enter, leave, wake}
-use Rattle.rules.specs.Writes.{cfgAfter, unlock}
+use Rattle.rules.specs.Modes.{enter, leave, wake, cancel}
+use Rattle.rules.specs.Writes.{cfgAfter, releaseAll}
 use Rattle.rules.specs.Bus.{raiseGisr, syncFlag, syncEvents, synced, timedOut, lostEvents, faulted, raiseLast}
 use Rattle.controller.specs.View.{View}
 use Rattle.invariants.specs.Sound.{within, RISR, GISR, RIER, Registers, RegistersSound, Sound}
@@ -124,7 +124,7 @@ module _ (w : View) (s : Sound w) where
       record { risr-only = now .risr-only; gisr-only = now .gisr-only; rier-only = h (now .rier-only); cfg-lt = now .cfg-lt; iena-lt = now .iena-lt }
 
   pub registers-kept : Kept RegistersSound w
-  unfolding leave wake synced timedOut raiseLast unlock within
+  unfolding leave wake cancel synced timedOut raiseLast releaseAll within
   registers-kept =
       let c = w .control in
       record {
@@ -132,6 +132,7 @@ module _ (w : View) (s : Sound w) where
         leaves = λ i l. now;
         enters = entered-registers;
         sleeps = λ i. now;
+        cancels = now;
         wakes = λ i. now;
         resizes = λ z i h m. now;
         configures = λ g e h. configured g h;
@@ -145,13 +146,15 @@ module _ (w : View) (s : Sound w) where
         locks-transmit = λ n h u t. now;
         locks-receive = λ n h u t r o. now;
         locks-fifo = λ n h t o e. now;
-        unlocks = λ n h. now;
+        delivers = λ k n b h e. now;
+        unlocks = λ n h f g. now;
         syncs = λ k i. sync-raised events now k;
         times-out = now;
         faults = λ k i. faulted-registers k;
         raises = λ b h i. raised b h;
         passes = λ i t. now;
         overruns = λ i t. raised OVRNIF refl;
+        holds = λ i l k t h u b f. now;
         stores = λ i l t y h u. now;
         queues = λ i l t y z u f. now;
         sends = λ i n t e h. now;

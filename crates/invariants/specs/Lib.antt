@@ -2,9 +2,11 @@
 pub mod Sound
 pub mod Reads
 pub mod Slots
+pub mod Newest
 -- final statements
 pub mod Reachable
 pub mod Examined
+pub mod Released
 -- nothing to believe: laws, and the code's own definitions
 pub mod AcceptedLaws
 pub mod TestLaws
@@ -26,8 +28,12 @@ pub mod KeptBitLaws
 pub mod KeptArmingLaws
 pub mod KeptRegisterLaws
 pub mod KeptContentsLaws
+pub mod KeptPlaceLaws
 pub mod KeptSoundLaws
 pub mod StepLaws
 pub mod ReachableLaws
 pub mod SlotLaws
 pub mod ExaminedLaws
+pub mod DeliveredLaws
+pub mod StillWaitingLaws
+pub mod ReleasedLaws

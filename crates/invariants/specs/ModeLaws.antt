@@ -14,9 +14,10 @@ use Rattle.masks.specs.SearchLaws.{count-ext}
 use Rattle.masks.specs.LayoutLaws.{rising-ext}
 use Rattle.rules.specs.declared.Events.{Events}
 use Rattle.rules.specs.declared.Fifo.{Fifo}
+use Rattle.rules.specs.declared.Places.{Places}
 use Rattle.rules.specs.declared.Control.{Control}
 use Rattle.rules.specs.Record.{withEvents}
-use Rattle.rules.specs.Registers.{has, emptyFifo, SYNLIF}
+use Rattle.rules.specs.Registers.{has, emptyFifo, noPlaces, SYNLIF}
 use Rattle.rules.specs.Kinds.{isTransmit, isLawful}
 use Rattle.rules.specs.Flags.{cleared, risrEvents, gisrEvents, writeRisr, defersClear, writeGisr}
 use Rattle.rules.specs.Modes.{enter}
@@ -89,7 +90,6 @@ gisr-written synced f v r =
 
 pub record Steady : Type 0 where
   pub init : Bool
-  pub slpak : Bool
   pub slprq : Bool
   pub synced : Bool
   pub events : Events
@@ -98,24 +98,24 @@ abbrev pub steady : Control → Steady
 steady c =
     record {
       init = c .mode .init;
-      slpak = c .mode .slpak;
       slprq = c .mode .slprq;
       synced = c .mode .synced;
       events = c .events;
     }
 
 -- and what they read in initialization besides
-pub record Resting (iflg abtak armed : ℕ) (q : Fifo) : Type 0 where
+pub record Resting (iflg abtak armed : ℕ) (q : Fifo) (p : Places) : Type 0 where
   pub iflg-none : iflg ≡ 0
   pub abtak-none : abtak ≡ 0
   pub armed-none : armed ≡ 0
   pub fifo-empty : q ≡ emptyFifo
+  pub places-free : p ≡ noPlaces
 
 abbrev pub RestingAt : Control → Type 0
-RestingAt c = Resting (c .buffers .iflg) (c .buffers .abtak) (c .buffers .armed) (c .fifo)
+RestingAt c = Resting (c .buffers .iflg) (c .buffers .abtak) (c .buffers .armed) (c .fifo) (c .places)
 
 pub resting : {c : Control} → Idle c → RestingAt c
-resting q = record { iflg-none = q .iflg; abtak-none = q .abtak; armed-none = q .armed; fifo-empty = q .fifo }
+resting q = record { iflg-none = q .iflg; abtak-none = q .abtak; armed-none = q .armed; fifo-empty = q .fifo; places-free = q .places }
 
 -- a rule that leaves the first alone, in initialization the second too, and outside it a lawful layout
 pub modes-by : (w : View) {u : View} → steady (u .control) ≡ steady (w .control) →
@@ -134,23 +134,21 @@ modes-by w {u} e r l m =
             iflg = rest .iflg-none;
             abtak = rest .abtak-none;
             armed = rest .armed-none;
-            slpak = ap (λ (x : Steady). x .slpak) e ∙ q .slpak;
             slprq = ap (λ (x : Steady). x .slprq) e ∙ q .slprq;
             synced = ap (λ (x : Steady). x .synced) e ∙ q .synced;
             fifo = rest .fifo-empty;
+            places = rest .places-free;
           };
       lawful = λ i. l (sym before ∙ i);
-      asleep = subst (λ (x : Steady). x .slpak ≡ true → x .slprq ≡ true) (sym e) (m .asleep);
       clear-stands = subst (λ (x : Steady). x .events .clearing ≡ true → has (x .events .gisr) SYNLIF ≡ true) (sym e) (m .clear-stands);
       clear-unsynced = subst (λ (x : Steady). x .events .clearing ≡ true → x .synced ≡ false) (sym e) (m .clear-unsynced);
     }
 
 -- outside initialization nothing need be idle
 pub awake : {u : View} → u .control .mode .init ≡ false → isLawful (u .control) ≡ true →
-    (u .control .mode .slpak ≡ true → u .control .mode .slprq ≡ true) →
     RememberedIn (u .control .mode .synced) (u .control .events) → ModeSound u
-awake i l a r =
-    record { idle = λ j. impossible (sym i ∙ j); lawful = λ j. l; asleep = a; clear-stands = r .stands; clear-unsynced = r .unsynced }
+awake i l r =
+    record { idle = λ j. impossible (sym i ∙ j); lawful = λ j. l; clear-stands = r .stands; clear-unsynced = r .unsynced }
 
 -- entering initialization makes all idle
 pub entered : (w : View) (c : Control) → ModeSound (at w (enter c))
@@ -165,13 +163,12 @@ entered w c =
             iflg = refl;
             abtak = refl;
             armed = refl;
-            slpak = refl;
             slprq = refl;
             synced = refl;
             fifo = refl;
+            places = refl;
           };
       lawful = λ i. impossible (sym i);
-      asleep = impossible;
       clear-stands = impossible;
       clear-unsynced = impossible;
     }
@@ -234,13 +231,12 @@ events-modes w f z r m =
             iflg = q .iflg;
             abtak = q .abtak;
             armed = q .armed;
-            slpak = q .slpak;
             slprq = q .slprq;
             synced = q .synced;
             fifo = q .fifo;
+            places = q .places;
           };
       lawful = m .lawful;
-      asleep = m .asleep;
       clear-stands = r .stands;
       clear-unsynced = r .unsynced;
     }

@@ -1,4 +1,5 @@
--- A step keeps a record sound, and in a sound record neither the FIFO's next place nor an armed buffer is locked.
+-- A step keeps a record sound; in a sound record neither the FIFO's next place nor an armed buffer is locked, and no frame waits in
+-- initialization. And outside the windows a read shows the register's value.
 use mathlib.Core.Path.{_≡_, refl, sym, ap, _∙_}
 use Prim.Native.Nat.{ℕ, _+_, _<_, _≤_}
 use mathlib.Core.Bool.{Bool, true, false, _&&_, not, and-false, false≢true}
@@ -9,18 +10,27 @@ use lib.Dec.{eqb, ltb}
 use Rattle.masks.specs.PickLaws.{by-test}
 use Rattle.locks.specs.declared.Locks.{Locks}
 use Rattle.locks.specs.Pair.{inPair}
+use Rattle.contents.specs.declared.Contents.{Contents}
+use Rattle.contents.specs.Bytes.{Head}
+use Rattle.rules.specs.declared.Answer.the-variants.{Value}
 use Rattle.rules.specs.declared.Control.{Control}
+use Rattle.rules.specs.Registers.{Region, sendPlace, receivePlace, fifoPlace, controlOf, elsewhere}
 use Rattle.rules.specs.Kinds.{isTransmit, isReceive, isLocked}
+use Rattle.rules.specs.Waiting.{waitsFor}
+use Rattle.rules.specs.Reads.{replyIn}
 use Rattle.rules.specs.Steps.{Step, hide}
 use Rattle.rules.specs.Rules.{decide}
 use Rattle.rules.specs.Untouched.{TargetsFree}
 use Rattle.controller.specs.declared.Controller.{Controller}
+use Rattle.controller.specs.Carry.{answerOf}
 use Rattle.controller.specs.Session.{stepBy, endBy}
 use Rattle.controller.specs.View.{View, viewOf}
 use Rattle.controller.specs.ViewLaws.{viewNext, step-view}
 use Rattle.invariants.specs.Sound.{PairSound, Sound}
 use Rattle.invariants.specs.StepLaws.{step-kept}
+use Rattle.invariants.specs.Reads.{isWindow}
 use Rattle.invariants.specs.ViewLaws.{lawful-low}
+use Rattle.invariants.specs.KeptModeLaws.{nothing-waits}
 use Rattle.invariants.specs.KeptSoundLaws.{reset-sound, sound-kept}
 
 pub step-sound : (w : View) → Sound w → (e : Step) → Sound (viewNext decide w e)
@@ -79,3 +89,14 @@ targets-free w s =
           simp (rx, tx) (not-oldest w s room (w .control .fifo .locked) refl);
       armed-free = λ m h a. s .arming .armed m h a .unlocked;
     }
+
+pub place-normal : (w : View) → Sound w → (k : ℕ) → waitsFor (w .control .places) k < 16 → w .control .mode .init ≡ false
+place-normal w s k h = by-test (w .control .mode .init) (λ i. absurd (nothing-waits w s k _ h refl i)) (λ i. i)
+
+pub value-shown : (c : Control) (hs : List Head) (e : Step) (rows : List Contents) (g : Region) (v : ℕ) → isWindow g ≡ false →
+    answerOf e rows (replyIn c hs g v) ≡ Value v
+value-shown c hs e rows (sendPlace p) v t = absurd (false≢true (sym t))
+value-shown c hs e rows (receivePlace p) v t = absurd (false≢true (sym t))
+value-shown c hs e rows (fifoPlace p) v t = absurd (false≢true (sym t))
+value-shown c hs e rows (controlOf n) v t = refl
+value-shown c hs e rows elsewhere v t = refl

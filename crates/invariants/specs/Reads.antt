@@ -1,8 +1,9 @@
 -- What registers read after a session from reset, and which of their bits are reserved.
 use Prim.Native.Nat.{ℕ}
+use mathlib.Core.Bool.{Bool, true, false}
 use mathlib.Core.List.{List}
 use Rattle.rules.specs.declared.Control.{Control}
-use Rattle.rules.specs.Registers.{registerAt}
+use Rattle.rules.specs.Registers.{Region, sendPlace, receivePlace, fifoPlace, controlOf, elsewhere, registerAt}
 use Rattle.rules.specs.Reads.{valueOf}
 use Rattle.rules.specs.Steps.{Step}
 use Rattle.controller.specs.Carry.{resetState}
@@ -17,6 +18,14 @@ after es = endOf resetState es .control
 -- the value of the register at address a
 abbrev pub reads : List Step → ℕ → ℕ
 reads es a = valueOf (after es) (registerAt a)
+
+-- a byte of a window, which is no register's value but a buffer's
+abbrev pub isWindow : Region → Bool
+isWindow (sendPlace p) = true
+isWindow (receivePlace p) = true
+isWindow (fifoPlace p) = true
+isWindow (controlOf n) = false
+isWindow elsewhere = false
 
 -- The bits that a register has not, and in $50 to $5F also ABTRQ, which reads 0. (A window's bytes are not among the values.)
 abbrev pub reservedBits : Register → ℕ

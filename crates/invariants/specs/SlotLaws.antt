@@ -63,7 +63,7 @@ decide-same p w s timeout = refl
 -- any rules that decide as document 01's do on every sound record give the same sessions
 module _ (r : Rules) (alike : (w : View) → Sound w → (e : Step) → r (w .control) (w .heads) e ≡ decide (w .control) (w .heads) e) where
   same-step : (c : Controller) → Sound (viewOf c) → (e : Step) → stepBy r c e ≡ stepBy decide c e
-  same-step c s e = ap (carry e (c .rows)) (alike (viewOf c) s (hide e))
+  same-step c s e = ap (carry e (c .rows) (c .held)) (alike (viewOf c) s (hide e))
 
   pub same-run : (c : Controller) → Sound (viewOf c) → (es : List Step) → runBy r linesOf c es ≡ runBy decide linesOf c es
   unfolding runBy

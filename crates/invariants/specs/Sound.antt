@@ -1,5 +1,5 @@
 -- What holds of every record that a session reaches from reset, as one record of facts about its public view: the control
--- state and the buffers' heads.
+-- state, the buffers' heads and the heads of the frames that wait.
 use mathlib.Core.Path.{_≡_}
 use Prim.Native.Nat.{ℕ, _+_, _≤_, _<_}
 use mathlib.Core.Bool.{Bool, true, false, _&&_, _||_}
@@ -7,11 +7,15 @@ use lib.ListN.{length}
 use lib.Dec.{eqb, ltb, leb}
 use lib.Bits.{bitAnd}
 use Rattle.locks.specs.declared.Locks.{Locks}
+use Rattle.locks.specs.Pair.{inPair}
+use Rattle.contents.specs.Bytes.{Head}
 use Rattle.rules.specs.declared.Events.{Events}
 use Rattle.rules.specs.declared.Fifo.{Fifo}
 use Rattle.rules.specs.declared.Control.{Control}
-use Rattle.rules.specs.Registers.{has, SYNLIF, emptyFifo}
+use Rattle.rules.specs.Registers.{has, SYNLIF, emptyFifo, noPlaces}
 use Rattle.rules.specs.Kinds.{isTransmit, isFifo, isReceive, isLocked, isLawful, hasIflg, hasAbtak, isArmed}
+use Rattle.rules.specs.Waiting.{waitsFor}
+use Rattle.rules.specs.Bus.{lookup}
 use Rattle.rules.specs.Plan.{headAt}
 use Rattle.controller.specs.View.{View}
 
@@ -51,17 +55,15 @@ pub record Idle (c : Control) : Type 0 where
   pub iflg : c .buffers .iflg ≡ 0
   pub abtak : c .buffers .abtak ≡ 0
   pub armed : c .buffers .armed ≡ 0
-  pub slpak : c .mode .slpak ≡ false
   pub slprq : c .mode .slprq ≡ false
   pub synced : c .mode .synced ≡ false
   pub fifo : c .fifo ≡ emptyFifo
+  pub places : c .places ≡ noPlaces
 
 pub record ModeSound (w : View) : Type 0 where
   pub idle : w .control .mode .init ≡ true → Idle (w .control)
   -- outside initialization the layout is lawful
   pub lawful : w .control .mode .init ≡ false → isLawful (w .control) ≡ true
-  -- SLPAK only with SLPRQ
-  pub asleep : w .control .mode .slpak ≡ true → w .control .mode .slprq ≡ true
   -- a remembered clear only of a standing SYNLIF, unsynchronized
   pub clear-stands : w .control .events .clearing ≡ true → has (w .control .events .gisr) SYNLIF ≡ true
   pub clear-unsynced : w .control .events .clearing ≡ true → w .control .mode .synced ≡ false
@@ -126,6 +128,18 @@ pub record ContentsSound (w : View) : Type 0 where
   pub entry-unmatched : (m n : ℕ) → isEntry (w .control) m ≡ true → n < 16 → isReceive (w .control) n ≡ true →
       eqb (headAt (w .heads) n .ident) (headAt (w .heads) m .ident) ≡ false
 
+-- W5: a frame with the head h waits for buffer n, a locked dedicated receive buffer (holder or contender), the lowest with the frame's
+-- identifier; its length is cut to 12, as it will be stored
+pub record Waits (w : View) (n : ℕ) (h : Head) : Type 0 where
+  pub locked : inPair (w .control .receive) n ≡ true
+  pub lowest-named : lookup (w .control) (w .heads) (h .ident) ≡ n
+  pub short : h .len ≤ 12
+
+-- two places, and each that is taken holds such a frame
+pub record PlacesSound (w : View) : Type 0 where
+  pub two : length (w .held) ≡ 2
+  pub waiting : (k : ℕ) → k < 2 → waitsFor (w .control .places) k < 16 → Waits w (waitsFor (w .control .places) k) (headAt (w .held) k)
+
 pub record Sound (w : View) : Type 0 where
   pub locks : LocksSound w
   pub fifo : FifoSound w
@@ -134,3 +148,4 @@ pub record Sound (w : View) : Type 0 where
   pub registers : RegistersSound w
   pub arming : ArmingSound w
   pub contents : ContentsSound w
+  pub places : PlacesSound w

@@ -14,7 +14,6 @@ modeWith m v master wpulse =
       init = m .init;
       master = master;
       alarm = has v ALARM;
-      slpak = m .slpak;
       slprq = m .slprq;
       wpulse = wpulse;
       sswai = has v SSWAI;

@@ -1,7 +1,8 @@
 // Entering and leaving initialization, sleeping and waking, the write of $00, and the setters that writes and the bus share.
 ghost use mathlib.Core.Path.{_≡_};
-ghost use Rattle.rules.specs.Record.{withMode, withBuffers, withSleep, withFifo};
-ghost use Rattle.rules.specs.Modes.{enteredMode, enter, leftMode, leave, wake, writeSleep, writtenMode, writeMcr};
+ghost use Rattle.rules.specs.Record.{withMode, withBuffers, withSlprq, withFifo};
+ghost use Rattle.rules.specs.Modes.{enteredMode, enter, leftMode, leave, wake, cancel, writeSleep, writtenMode, writeMcr};
+use masks::NONE;
 use rules::Buffers;
 use rules::Control;
 use rules::Fifo;
@@ -14,6 +15,7 @@ use rules::bits::SLPRQ;
 use rules::bits::SSWAI;
 use rules::bits::WPULSE;
 use rules::bits::has;
+use waiting::asleep;
 
 pub fn with_mode(c: Control, m: Mode) -> Control
     ensures { λ r. ⌜ r ≡ withMode c m ⌝ }
@@ -45,7 +47,6 @@ fn entered_mode(m: Mode) -> Mode
 {
     let mut next = m;
     next.init = true;
-    next.slpak = false;
     next.slprq = false;
     next.synced = false;
     next
@@ -61,12 +62,10 @@ fn left_mode(m: Mode) -> Mode
     next
 }
 
-// SLPRQ and SLPAK set or cleared together.
-fn with_sleep(m: Mode, x: bool) -> Mode
-    ensures { λ r. ⌜ r ≡ withSleep m x ⌝ }
+fn with_slprq(m: Mode, x: bool) -> Mode
+    ensures { λ r. ⌜ r ≡ withSlprq m x ⌝ }
 {
     let mut next = m;
-    next.slpak = x;
     next.slprq = x;
     next
 }
@@ -103,6 +102,9 @@ pub fn enter(c: Control) -> Control
     next.fifo.next = 0;
     next.fifo.count = 0;
     next.fifo.locked = false;
+    next.places.first = NONE;
+    next.places.second = NONE;
+    next.places.swapped = false;
     next.buffers.iflg = 0;
     next.buffers.abtak = 0;
     next.buffers.armed = 0;
@@ -127,28 +129,37 @@ pub fn wake(c: Control) -> Control
     ensures { λ r. ⌜ r ≡ wake c ⌝ }
 {
     let mut next = c;
-    next.mode.slpak = false;
     next.mode.slprq = false;
     next.mode.synced = false;
     next.buffers.armed = 0;
     next
 }
 
-// SLPRQ written in normal operation: 1 sleeps if BFEN is set, 0 wakes a sleeping module, without WAKEIF.
+// SLPRQ cancelled, which is no waking.
+pub fn cancel(c: Control) -> Control
+    ensures { λ r. ⌜ r ≡ cancel c ⌝ }
+{
+    let mut next = c;
+    next.mode.slprq = false;
+    next
+}
+
+// SLPRQ written in normal operation: 1 sleeps if BFEN is set, once no frame waits; 0 wakes a sleeping module, without WAKEIF, and
+// cancels a request that still waits.
 pub fn write_sleep(c: Control, on: bool) -> Control
     ensures { λ r. ⌜ r ≡ writeSleep c on ⌝ }
 {
     if on {
         if c.config.bfen {
             let m = c.mode;
-            return with_mode(c, with_sleep(m, true));
+            return with_mode(c, with_slprq(m, true));
         }
         return c;
     }
-    if c.mode.slpak {
+    if asleep(c) {
         return wake(c);
     }
-    c
+    cancel(c)
 }
 
 // A write of $00 that is not refused.

@@ -27,15 +27,16 @@ use rules::bits::SLPRQ;
 use rules::bits::SSWAI;
 use rules::bits::TXBUFLOCK;
 use rules::bits::WPULSE;
+use waiting::asleep;
 
-// $00. INITRQ and INITAK are one field: they are never apart.
-pub fn mcr(m: Mode) -> u8
-    ensures { λ r. ⌜ r ≡ mcr m ⌝ }
+// $00, SLPAK given. INITRQ and INITAK are one field: they are never apart.
+pub fn mcr(slpak: bool, m: Mode) -> u8
+    ensures { λ r. ⌜ r ≡ mcr slpak m ⌝ }
 {
     let mut v = with_flag(m.init, INITRQ, 0);
     v = with_flag(m.master, MASTER, v);
     v = with_flag(m.alarm, ALARM, v);
-    v = with_flag(m.slpak, SLPAK, v);
+    v = with_flag(slpak, SLPAK, v);
     v = with_flag(m.slprq, SLPRQ, v);
     v = with_flag(m.wpulse, WPULSE, v);
     v = with_flag(m.sswai, SSWAI, v);
@@ -72,7 +73,7 @@ pub fn value_of(c: Control, register: Register) -> u8
     match register {
         Register::Mcr => {
             let m = c.mode;
-            mcr(m)
+            mcr(asleep(c), m)
         }
         Register::Fsizr => c.config.fsiz,
         Register::Tcr1 => c.config.tcr1,

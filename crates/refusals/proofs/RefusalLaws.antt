@@ -18,6 +18,7 @@ use Rattle.rules.specs.declared.Control.{Control}
 use Rattle.rules.specs.Registers.{between, has, LOCK}
 use Rattle.rules.specs.Kinds.{isTransmit, isLocked, isOldest}
 use Rattle.rules.specs.Writes.{cfgAfter}
+use Rattle.rules.specs.Waiting.{asleep}
 use Rattle.rules.specs.Refusals.{refuses1, refuses2, refuses3, onlyInInit, refuses4, refuses5, refuses6, movedByFsiz, movedByCfg, refuses7, refuses8, newLock, notOldest, refuses9, noLockLeft, refuses10, firstOf, readRefusal, writeRefusal}
 use Rattle.refusals.specs.Code.{lockRefusal, controlRefusal, lowRefusal, lateRefusal}
 
@@ -163,17 +164,17 @@ module _ (c : Control) (n v : ℕ) where
       (λ t. lt-ltb 0x5F (0x50 + n) (let over = ltb-true 15 n t in omega arith) ∙ sym t)
       (λ t. le-ltb 0x5F (0x50 + n) (let within = ltb-false 15 n t in omega arith) ∙ sym t)
 
-  asleep : refuses2 c (0x50 + n) ≡ c .mode .slpak
+  sleeping : refuses2 c (0x50 + n) ≡ asleep c
   unfolding refuses2
-  asleep = ap (λ (t : Bool). c .mode .slpak && not t) (far (0x50 + n) 0x00 (omega arith) (omega arith)) ∙ and-true (c .mode .slpak)
+  sleeping = ap (λ (t : Bool). asleep c && not t) (far (0x50 + n) 0x00 (omega arith) (omega arith)) ∙ and-true (asleep c)
     where
       and-true : (t : Bool) → (t && true) ≡ t
       and-true true = refl
       and-true false = refl
 
-  pub control-write : writeRefusal c (0x50 + n) v ≡ pick (ltb 15 n) 1 (pick (c .mode .slpak) 2 (controlRefusal c n v))
+  pub control-write : writeRefusal c (0x50 + n) v ≡ pick (ltb 15 n) 1 (pick (asleep c) 2 (controlRefusal c n v))
   control-write =
       write-order c (0x50 + n) v
       ∙ ap₂ (λ (t : Bool) (k : ℕ). pick t 1 k) past-last
-      (ap₂ (λ (t : Bool) (k : ℕ). pick t 2 k) asleep
+      (ap₂ (λ (t : Bool) (k : ℕ). pick t 2 k) sleeping
       (control-order c (0x50 + n) v (omega arith) ∙ ap (λ (k : ℕ). controlRefusal c k v) (omega arith)))

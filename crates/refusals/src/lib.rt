@@ -19,6 +19,7 @@ use rules::Control;
 use rules::bits::INITRQ;
 use rules::bits::LOCK;
 use rules::bits::has;
+use waiting::asleep;
 
 fn between(low: u8, a: u8, high: u8) -> bool
     ensures { λ r. ⌜ r ≡ between low a high ⌝ }
@@ -55,7 +56,7 @@ fn refuses6(a: u8, v: u8) -> bool
 fn refuses2(c: Control, a: u8) -> bool
     ensures { λ r. ⌜ r ≡ refuses2 c a ⌝ }
 {
-    c.mode.slpak && a != 0
+    asleep(c) && a != 0
 }
 
 // 4: a register that is written in initialization only.
@@ -164,7 +165,7 @@ pub fn control_write_refusal(c: Control, n: u8, v: u8) -> u8
     if NONE <= n {
         return 1;
     }
-    if c.mode.slpak {
+    if asleep(c) {
         return 2;
     }
     control_refusal(c, n, v)

@@ -12,7 +12,7 @@ use Rattle.masks.specs.Pick.{pick}
 use Rattle.masks.specs.PickLaws.{by-test}
 use Rattle.rules.proofs.Answer.{the-type as the-answer}
 use Rattle.rules.specs.declared.Answer.{Answer}
-use Rattle.rules.specs.declared.Answer.the-variants.{Ok, Value, Stored, Queued, HeldOff, Sent, Pulse, Refused, Overrun, Unmatched, BadFrame, Ignored, Woke, NotSent}
+use Rattle.rules.specs.declared.Answer.the-variants.{Ok, Value, Stored, Queued, Waiting, HeldOff, Sent, Pulse, Refused, Overrun, Unmatched, BadFrame, Ignored, Woke, NotSent}
 use Rattle.rules.specs.AnswerLaws.{WORDS}
 use Rattle.rules.specs.Answers.{wordOf, SENT, REFUSED}
 use Rattle.rules.specs.KeptLinesLaws.{keepsLines}
@@ -33,6 +33,7 @@ tag-word Ok = refl
 tag-word (Value v) = refl
 tag-word (Stored n) = refl
 tag-word (Queued n) = refl
+tag-word (Waiting n) = refl
 tag-word (HeldOff n) = refl
 tag-word (Sent k) = refl
 tag-word (Pulse k) = refl
@@ -74,7 +75,7 @@ other-counted k a h = rw (other-word (allBut REFUSED) REFUSED tt a h) refl
 -- ---- which variants leave the five lines as they are
 
 abbrev keeping : List ℕ
-keeping = 1 ∷ 4 ∷ 7 ∷ 9 ∷ 11 ∷ 13 ∷ []
+keeping = 1 ∷ 4 ∷ 7 ∷ 9 ∷ 11 ∷ 13 ∷ 14 ∷ []
 
 abbrev changing : List ℕ
 changing = 0 ∷ 2 ∷ 3 ∷ 5 ∷ 6 ∷ 8 ∷ 10 ∷ 12 ∷ []
@@ -85,6 +86,7 @@ by-tag Ok = (refl, refl)
 by-tag (Value v) = (refl, refl)
 by-tag (Stored n) = (refl, refl)
 by-tag (Queued n) = (refl, refl)
+by-tag (Waiting n) = (refl, refl)
 by-tag (HeldOff n) = (refl, refl)
 by-tag (Sent k) = (refl, refl)
 by-tag (Pulse k) = (refl, refl)

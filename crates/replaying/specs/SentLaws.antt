@@ -17,10 +17,12 @@ use Rattle.rules.specs.declared.Register.{Register}
 use Rattle.rules.specs.declared.Control.{Control}
 use Rattle.rules.specs.Answers.{isSent, givenOf, numberIn, bytes, detailOf}
 use Rattle.rules.specs.AnswerLaws.{detail-same}
-use Rattle.rules.specs.Registers.{Region, sendPlace, receivePlace, fifoPlace, elsewhere, regionOf, registerAt}
+use Rattle.rules.specs.Registers.{Region, sendPlace, receivePlace, fifoPlace, controlOf, elsewhere, regionOf, registerAt}
 use Rattle.rules.specs.Kinds.{isLocked}
+use Rattle.rules.specs.Waiting.{isFree, asleep}
+use Rattle.rules.specs.Modes.{cancel}
 use Rattle.rules.specs.Reads.{windowReply, replyIn, readReply}
-use Rattle.rules.specs.Bus.{dueSync, lookup, toBuffer, fifoTakes, toFifo, raiseLast, found, judged, received}
+use Rattle.rules.specs.Bus.{dueSync, lookup, toPlace, toBuffer, fifoTakes, toFifo, raiseLast, found, judged, received}
 use Rattle.rules.specs.Refusals.{refusal}
 use Rattle.rules.specs.Steps.{Step, slot, roomIn, hide}
 use Rattle.rules.specs.Plan.{Reply, say, show, send, Plan}
@@ -59,6 +61,7 @@ reply-quiet : (c : Control) (hs : List Head) (g : Region) (v : ℕ) → QuietRep
 reply-quiet c hs (sendPlace p) v = window-quiet hs _ p
 reply-quiet c hs (receivePlace p) v = window-quiet hs _ p
 reply-quiet c hs (fifoPlace p) v = window-quiet hs _ p
+reply-quiet c hs (controlOf n) v = record { quiet = refl }
 reply-quiet c hs elsewhere v = record { quiet = refl }
 
 read-quiet : (c : Control) (hs : List Head) (r : Register) → QuietReply (readReply c hs r)
@@ -67,15 +70,17 @@ read-quiet c hs r = reply-quiet c hs (regionOf r) _
 
 bus-quiet : (c : Control) (p q : Plan) → Quiet p → Quiet q → Quiet (onBus c p q)
 unfolding onBus
-bus-quiet c p q x y = pick-keeps Quiet (c .mode .init) (λ t. ok _ refl) (λ t. pick-keeps Quiet (c .mode .slpak) (λ u. x) (λ u. y))
+bus-quiet c p q x y = pick-keeps Quiet (c .mode .init) (λ t. ok _ refl) (λ t. pick-keeps Quiet (asleep c) (λ u. x) (λ u. y))
 
 due-quiet : (c : Control) (hs : List Head) → Quiet (dueSync c hs)
 unfolding dueSync
 due-quiet c hs = pick-keeps Quiet (c .mode .master) (λ t. ok _ refl) (λ t. ok _ refl)
 
 buffer-quiet : (c : Control) (n : ℕ) → Quiet (toBuffer c n)
-unfolding toBuffer
-buffer-quiet c n = pick-keeps Quiet (isLocked c n) (λ t. ok _ refl) (λ t. ok _ refl)
+unfolding toBuffer toPlace
+buffer-quiet c n =
+    pick-keeps Quiet (isLocked c n)
+    (λ t. pick-keeps Quiet (isFree c 0) (λ u. ok _ refl) (λ u. pick-keeps Quiet (isFree c 1) (λ x. ok _ refl) (λ x. ok _ refl))) (λ t. ok _ refl)
 
 fifo-quiet : (c : Control) (i : ℕ) → Quiet (toFifo c i)
 unfolding toFifo
@@ -88,7 +93,7 @@ unfolding received judged found
 frame-quiet c hs good i =
     pick-keeps Quiet (not (c .mode .synced)) (λ t. ok _ refl)
     (λ t. pick-keeps Quiet (not good || eqb i 0) (λ u. ok _ refl)
-    (λ u. ok _ (pick-keeps Quiet (ltb (lookup c hs i) 16) (λ x. buffer-quiet (raiseLast c i) (lookup c hs i)) (λ x. fifo-quiet (raiseLast c i) i) .quiet)))
+    (λ u. ok _ (pick-keeps Quiet (ltb (lookup c hs i) 16) (λ x. buffer-quiet (raiseLast (cancel c) i) (lookup c hs i)) (λ x. fifo-quiet (raiseLast (cancel c) i) i) .quiet)))
 
 abbrev isSlot : Call → Bool
 isSlot Reset = false

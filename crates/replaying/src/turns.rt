@@ -37,7 +37,8 @@ pub(crate) fn lines_after(c: Controller, a: Answered, irq: u8) -> u8
         | Answer::Refused(_)
         | Answer::Unmatched
         | Answer::Ignored
-        | Answer::NotSent => irq,
+        | Answer::NotSent
+        | Answer::Waiting(_) => irq,
         _ => c.lines(),
     }
 }

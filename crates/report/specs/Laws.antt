@@ -15,7 +15,7 @@ use Rattle.masks.specs.PickLaws.{pick-true, pick-false, pick-keeps}
 use Rattle.rules.specs.declared.SyncKind.{SyncKind}
 use Rattle.rules.specs.declared.SyncKind.the-variants.{Normal, Alarm}
 use Rattle.rules.specs.declared.Answer.{Answer}
-use Rattle.rules.specs.declared.Answer.the-variants.{Ok, Value, Stored, Queued, HeldOff, Sent, Pulse, Refused, Overrun, Unmatched, BadFrame, Ignored, Woke, NotSent}
+use Rattle.rules.specs.declared.Answer.the-variants.{Ok, Value, Stored, Queued, Waiting, HeldOff, Sent, Pulse, Refused, Overrun, Unmatched, BadFrame, Ignored, Woke, NotSent}
 use Rattle.rules.specs.Answers.{wordOf, Given, dash, value, buffer, counted, kind, number, givenOf, isSent, Detail, given, bytes, framed, detailOf}
 use Rattle.report.specs.Text.{hexOf, hexesOf, digitsOf, widthOf, decimalOf, wordTexts, wordText, unreadText, kindText, givenText, detailText, countText, endText, rowText, rowOf, unreadRow, headingOf, Put, Wrote, fitting}
 
@@ -231,6 +231,7 @@ word-some Ok = omega arith
 word-some (Value v) = omega arith
 word-some (Stored n) = omega arith
 word-some (Queued n) = omega arith
+word-some (Waiting n) = omega arith
 word-some (HeldOff n) = omega arith
 word-some (Sent k) = omega arith
 word-some (Pulse k) = omega arith

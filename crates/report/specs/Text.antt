@@ -39,7 +39,7 @@ decimalOf n = digitsOf (widthOf n) n
 -- ---- words and details
 
 -- by the words' numbers: ok, read, stored, queued, heldoff, none for 5, which is unused, sent, pulse, refused, overrun, unmatched,
--- badframe, ignored, woke, notsent
+-- badframe, ignored, woke, notsent, waiting
 unfoldable pub wordTexts : List (List ℕ)
 wordTexts =
     (111 ∷ 107 ∷ [])
@@ -56,7 +56,8 @@ wordTexts =
     ∷ (98 ∷ 97 ∷ 100 ∷ 102 ∷ 114 ∷ 97 ∷ 109 ∷ 101 ∷ [])
     ∷ (105 ∷ 103 ∷ 110 ∷ 111 ∷ 114 ∷ 101 ∷ 100 ∷ [])
     ∷ (119 ∷ 111 ∷ 107 ∷ 101 ∷ [])
-    ∷ (110 ∷ 111 ∷ 116 ∷ 115 ∷ 101 ∷ 110 ∷ 116 ∷ []) ∷ []
+    ∷ (110 ∷ 111 ∷ 116 ∷ 115 ∷ 101 ∷ 110 ∷ 116 ∷ [])
+    ∷ (119 ∷ 97 ∷ 105 ∷ 116 ∷ 105 ∷ 110 ∷ 103 ∷ []) ∷ []
 
 abbrev pub wordText : ℕ → List ℕ
 wordText w = getD wordTexts w []

@@ -4,8 +4,9 @@ ghost use mathlib.Core.List.{[], _∷_, _++_};
 ghost use Prim.Native.Nat.{_+_, _<_, _≤_};
 ghost use lib.ListN.{length};
 ghost use lib.Seq.{sets};
-ghost use Rattle.rules.specs.Answers.{wordOf, detailOf};
+ghost use Rattle.rules.specs.Answers.{wordOf, givenOf, detailOf};
 ghost use Rattle.report.specs.Text.{Put, digitOf, hexOf, hexesOf, wordText, unreadText, kindText, detailText, countText, endText};
+ghost use Rattle.report.specs.CodeAnswer.{isHex, hexIn, beforeHex};
 ghost use Rattle.report.specs.CodeNumbers.{wordBytes, numberText, numberedRow};
 use crate::Number;
 use crate::puts::put_byte;
@@ -125,38 +126,69 @@ fn pulse(out: &mut [u8], at: usize, k: SyncKind) -> usize
     }
 }
 
-// A row's answer and detail, each with its tab.
-fn answer(out: &mut [u8], at: usize, a: Answer, sent: &[u8]) -> usize
+// Whether a row shows a value, a buffer or a refusal, in hex.
+fn is_hex(a: Answer) -> bool
+    ensures { λ r. ⌜ r ≡ isHex (givenOf a) ⌝ }
+{
+    match a {
+        Answer::Value(_) => true,
+        Answer::Stored(_) => true,
+        Answer::Queued(_) => true,
+        Answer::HeldOff(_) => true,
+        Answer::Refused(_) => true,
+        Answer::Waiting(_) => true,
+        Answer::Ok => false,
+        Answer::Sent(_) => false,
+        Answer::Pulse(_) => false,
+        Answer::Overrun => false,
+        Answer::Unmatched => false,
+        Answer::BadFrame => false,
+        Answer::Ignored => false,
+        Answer::Woke => false,
+        Answer::NotSent => false,
+    }
+}
+
+// That number; 0 where there is none.
+fn hex_in(a: Answer) -> u8
+    ensures { λ r. ⌜ r ≡ hexIn (givenOf a) ⌝ }
+{
+    match a {
+        Answer::Value(v) => v,
+        Answer::Stored(n) => n,
+        Answer::Queued(n) => n,
+        Answer::HeldOff(n) => n,
+        Answer::Refused(r) => r,
+        Answer::Waiting(n) => n,
+        Answer::Ok => 0,
+        Answer::Sent(_) => 0,
+        Answer::Pulse(_) => 0,
+        Answer::Overrun => 0,
+        Answer::Unmatched => 0,
+        Answer::BadFrame => 0,
+        Answer::Ignored => 0,
+        Answer::Woke => 0,
+        Answer::NotSent => 0,
+    }
+}
+
+// A row's answer with its tab, and its detail with its tab unless that is a number in hex.
+fn word(out: &mut [u8], at: usize, a: Answer, sent: &[u8]) -> usize
     requires { ⌜ (at + 34 ≤ length (now out)) × (length (now sent) ≤ 14) ⌝ }
-    ensures { λ r. ⌜ Put (now (out .entry)) at (wordText (wordOf a) ++ (9 ∷ []) ++ detailText (detailOf a (now (sent .entry))) ++ (9 ∷ [])) (now (out .exit)) r ⌝ }
+    ensures { λ r. ⌜ Put (now (out .entry)) at (beforeHex a (now (sent .entry))) (now (out .exit)) r ⌝ }
 {
     match a {
         Answer::Ok => put5(out, at, b"ok\t-\t"),
-        Answer::Value(v) => {
-            let at = put5(out, at, b"read\t");
-            hex_field(out, at, v)
-        }
-        Answer::Stored(n) => {
-            let at = put7(out, at, b"stored\t");
-            hex_field(out, at, n)
-        }
-        Answer::Queued(n) => {
-            let at = put7(out, at, b"queued\t");
-            hex_field(out, at, n)
-        }
-        Answer::HeldOff(n) => {
-            let at = put8(out, at, b"heldoff\t");
-            hex_field(out, at, n)
-        }
+        Answer::Value(_) => put5(out, at, b"read\t"),
+        Answer::Stored(_) => put7(out, at, b"stored\t"),
+        Answer::Queued(_) => put7(out, at, b"queued\t"),
+        Answer::HeldOff(_) => put8(out, at, b"heldoff\t"),
         Answer::Sent(_) => {
             let at = put5(out, at, b"sent\t");
             frame_field(out, at, sent)
         }
         Answer::Pulse(k) => pulse(out, at, k),
-        Answer::Refused(r) => {
-            let at = put8(out, at, b"refused\t");
-            hex_field(out, at, r)
-        }
+        Answer::Refused(_) => put8(out, at, b"refused\t"),
         Answer::Overrun => {
             let at = put7(out, at, b"overrun");
             put3(out, at, b"\t-\t")
@@ -178,7 +210,21 @@ fn answer(out: &mut [u8], at: usize, a: Answer, sent: &[u8]) -> usize
             let at = put7(out, at, b"notsent");
             put3(out, at, b"\t-\t")
         }
+        Answer::Waiting(_) => put8(out, at, b"waiting\t"),
     }
+}
+
+// A row's answer and detail, each with its tab. The number in hex is put in one place for the six answers that have one: with a place in
+// each, the loop over the lines outgrew what the compiler inlines.
+fn answer(out: &mut [u8], at: usize, a: Answer, sent: &[u8]) -> usize
+    requires { ⌜ (at + 34 ≤ length (now out)) × (length (now sent) ≤ 14) ⌝ }
+    ensures { λ r. ⌜ Put (now (out .entry)) at (wordText (wordOf a) ++ (9 ∷ []) ++ detailText (detailOf a (now (sent .entry))) ++ (9 ∷ [])) (now (out .exit)) r ⌝ }
+{
+    let at = word(out, at, a, sent);
+    if is_hex(a) {
+        return hex_field(out, at, hex_in(a));
+    }
+    at
 }
 
 // A count in decimal, between its tab and the row's LF. Most rows have a 0 here, and none has more than 16.

@@ -7,7 +7,7 @@ use lib.Dec.{eqb}
 use Rattle.rules.specs.declared.SyncKind.{SyncKind}
 use Rattle.rules.specs.declared.SyncKind.the-variants.{Normal, Alarm}
 use Rattle.rules.specs.declared.Answer.{Answer}
-use Rattle.rules.specs.declared.Answer.the-variants.{Ok, Value, Stored, Queued, HeldOff, Sent, Pulse, Refused, Overrun, Unmatched, BadFrame, Ignored, Woke, NotSent}
+use Rattle.rules.specs.declared.Answer.the-variants.{Ok, Value, Stored, Queued, Waiting, HeldOff, Sent, Pulse, Refused, Overrun, Unmatched, BadFrame, Ignored, Woke, NotSent}
 
 -- what comes with an answer's word
 pub data Given : Type 0 where
@@ -37,8 +37,8 @@ numberIn (counted k) = k
 numberIn (kind k) = syncNumber k
 numberIn (number r) = r
 
--- the words by their numbers, in the order of document 01's report. Number 5 was that of a word which W10 took out; for C's sake no
--- other number moved.
+-- the words by their numbers, in the order of document 01's report. Number 5 was that of a word which W10 took out, and W5's "waiting"
+-- has the first number behind the others: for C's sake no number moved.
 pub record Parts : Type 0 where
   pub word : ℕ
   pub given : Given
@@ -52,6 +52,7 @@ partsOf (Value v) = parts 1 (value v)
 partsOf (Stored n) = parts 2 (buffer n)
 partsOf (Queued n) = parts 3 (buffer n)
 partsOf (HeldOff n) = parts 4 (buffer n)
+partsOf (Waiting n) = parts 15 (buffer n)
 partsOf (Sent k) = parts 6 (counted k)
 partsOf (Pulse k) = parts 7 (kind k)
 partsOf (Refused r) = parts 8 (number r)
@@ -70,6 +71,9 @@ QUEUED = 3
 
 abbrev pub HELDOFF : ℕ
 HELDOFF = 4
+
+abbrev pub WAITING : ℕ
+WAITING = 15
 
 abbrev pub SENT : ℕ
 SENT = 6
@@ -116,9 +120,13 @@ isPut a = eqb (wordOf a) STORED || eqb (wordOf a) QUEUED
 abbrev pub isPutIn : ℕ → Answer → Bool
 isPutIn n a = isPut a && eqb (numberIn (givenOf a)) n
 
--- the answers "stored" and "heldoff": a dedicated receive buffer carries the frame's identifier
+-- the answer "waiting": it is in one of the two places
+abbrev pub isHeld : Answer → Bool
+isHeld a = eqb (wordOf a) WAITING
+
+-- the answers "stored", "waiting" and "heldoff": a dedicated receive buffer carries the frame's identifier
 abbrev pub isFound : Answer → Bool
-isFound a = eqb (wordOf a) STORED || eqb (wordOf a) HELDOFF
+isFound a = eqb (wordOf a) STORED || eqb (wordOf a) WAITING || eqb (wordOf a) HELDOFF
 
 -- the answers of a frame that is looked up (W8): those, "queued", "overrun" and "unmatched"
 abbrev pub isLookedUp : Answer → Bool

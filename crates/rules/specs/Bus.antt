@@ -12,16 +12,17 @@ use Rattle.rules.specs.declared.SyncKind.{SyncKind}
 use Rattle.rules.specs.declared.SyncKind.the-variants.{Normal, Alarm}
 use Rattle.rules.specs.declared.Fault.{Fault}
 use Rattle.rules.specs.declared.Fault.the-variants.{Early, Lost, Illegal, Mismatch}
-use Rattle.rules.specs.declared.Answer.the-variants.{Ok, Stored, Queued, HeldOff, Pulse, Overrun, Unmatched, BadFrame, Ignored, Woke, NotSent}
+use Rattle.rules.specs.declared.Answer.the-variants.{Ok, Stored, Queued, Waiting, HeldOff, Pulse, Overrun, Unmatched, BadFrame, Ignored, Woke, NotSent}
 use Rattle.rules.specs.declared.Events.{Events}
 use Rattle.rules.specs.declared.Fifo.{Fifo}
 use Rattle.rules.specs.declared.Control.{Control}
-use Rattle.rules.specs.Record.{withMode, withEvents, withFifo, withBuffers, withAlarm, withSynced, withLast, withRisr, withGisr, withIflg, withArmed}
+use Rattle.rules.specs.Record.{withMode, withEvents, withFifo, withPlaces, withBuffers, withAlarm, withSynced, withLast, withRisr, withGisr, withIflg, withArmed}
 use Rattle.rules.specs.Registers.{SYNAIF, SYNNIF, SLMMIF, XSYNIF, OVRNIF, ERRIF, SYNEIF, SYNLIF, ILLPIF, WAKEIF}
 use Rattle.rules.specs.Kinds.{isReceive, isArmed, isLocked, isFullTransmit, placeAfter}
+use Rattle.rules.specs.Waiting.{isFree, occupied}
 use Rattle.rules.specs.Flags.{cleared}
-use Rattle.rules.specs.Modes.{disarmAll, wake}
-use Rattle.rules.specs.Plan.{headAt, Move, store, Reply, say, send, Plan, plain, withLooked}
+use Rattle.rules.specs.Modes.{disarmAll, wake, cancel}
+use Rattle.rules.specs.Plan.{headAt, Move, store, hold, Reply, say, send, Plan, plain, withLooked}
 
 -- ---- event flags
 
@@ -67,7 +68,7 @@ dueKind c = pick (c .mode .alarm) Alarm Normal
 unfoldable pub dueSync : Control → List Head → Plan
 dueSync c hs =
     let k = dueKind c in
-    pick (c .mode .master) (plain (synced k c hs) (Pulse k)) (plain c Ignored)
+    pick (c .mode .master) (plain (synced k (cancel c) hs) (Pulse k)) (plain c Ignored)
 
 -- "Alarm timeout clears ALARM."
 unfoldable pub timedOut : Control → Control
@@ -95,10 +96,18 @@ receives c hs i n = isReceive c n && eqb (headAt hs n .ident) i
 unfoldable pub lookup : Control → List Head → ℕ → ℕ
 lookup c hs i = lowest (receives c hs i) 0 16
 
--- "Locked: nothing is stored. Unlocked: stored, IFLG set."
+-- W5: "A frame whose buffer is locked takes a free place and is answered 'waiting' with the buffer's number"
+abbrev pub waits : Control → ℕ → ℕ → Plan
+waits c k n = record { control = withPlaces c (occupied (c .places) k n); moves = hold k ∷ []; reply = say (Waiting n); looked = 0 }
+
+-- "with both taken it is 'heldoff'"
+unfoldable pub toPlace : Control → ℕ → Plan
+toPlace c n = pick (isFree c 0) (waits c 0 n) (pick (isFree c 1) (waits c 1 n) (plain c (HeldOff n)))
+
+-- "Unlocked: stored, IFLG set."
 unfoldable pub toBuffer : Control → ℕ → Plan
 toBuffer c n =
-    pick (isLocked c n) (plain c (HeldOff n))
+    pick (isLocked c n) (toPlace c n)
     (record {
       control = withBuffers c (withIflg (c .buffers) (putBit (c .buffers .iflg) n true));
       moves = store n ∷ [];
@@ -149,11 +158,12 @@ examined c n = countOf (λ k. isReceive c k && leb k n) 16
 unfoldable pub found : Control → ℕ → ℕ → Plan
 found c i n = withLooked (pick (ltb n 16) (toBuffer (raiseLast c i) n) (toFifo (raiseLast c i) i)) (examined c n)
 
--- "unsynchronized, ignored. A bad verdict or identifier 0 sets ERRIF ('badframe')." The frame's buffer is n, or none.
+-- "unsynchronized, ignored. A bad verdict or identifier 0 sets ERRIF ('badframe')." The frame's buffer is n, or none. W5: a frame that
+-- isn't ignored cancels SLPRQ.
 unfoldable pub judged : Control → Bool → ℕ → ℕ → Plan
 judged c good i n =
     pick (not (c .mode .synced)) (plain c Ignored)
-    (pick (not good || eqb i 0) (plain (raiseGisr c ERRIF) BadFrame) (found c i n))
+    (pick (not good || eqb i 0) (plain (raiseGisr (cancel c) ERRIF) BadFrame) (found (cancel c) i n))
 
 unfoldable pub received : Control → List Head → Bool → ℕ → Plan
 received c hs good i = judged c good i (lookup c hs i)

@@ -11,13 +11,17 @@ use Rattle.masks.specs.Bits.{highest}
 use Rattle.contents.specs.Bytes.{Head}
 use Rattle.rules.specs.declared.SyncKind.{SyncKind}
 use Rattle.rules.specs.declared.Answer.{Answer}
-use Rattle.rules.specs.declared.Answer.the-variants.{Ok, Value, Stored, Queued, HeldOff, Sent, Pulse, Refused, Overrun, Unmatched, BadFrame, Ignored, Woke, NotSent}
+use Rattle.rules.specs.declared.Answer.the-variants.{Ok, Value, Stored, Queued, Waiting, HeldOff, Sent, Pulse, Refused, Overrun, Unmatched, BadFrame, Ignored, Woke, NotSent}
+use Rattle.rules.specs.declared.Places.{Places}
 use Rattle.rules.specs.declared.Control.{Control}
+use Rattle.rules.specs.Record.{withPlaces}
 use Rattle.rules.specs.Kinds.{isLocked, lockif}
 use Rattle.rules.specs.Flags.{receivePending, transmitPending, rxif, txif, risr, gisr, linesOf}
-use Rattle.rules.specs.Bus.{dueSync, lookup, toBuffer, fifoTakes, toFifo, raiseLast, found, judged, received, offers, sendFrom, slotFor, slotted}
+use Rattle.rules.specs.Waiting.{asleep, isFree}
+use Rattle.rules.specs.Modes.{cancel}
+use Rattle.rules.specs.Bus.{dueSync, lookup, toPlace, toBuffer, fifoTakes, toFifo, raiseLast, found, judged, received, offers, sendFrom, slotFor, slotted}
 use Rattle.rules.specs.Refusals.{refusal}
-use Rattle.rules.specs.Answers.{wordOf, HELDOFF, UNMATCHED, changesNothing}
+use Rattle.rules.specs.Answers.{wordOf, HELDOFF, WAITING, UNMATCHED, changesNothing}
 use Rattle.rules.specs.Steps.{Step, reset, read, write, sync, syncDue, slot, frame, fault, timeout}
 use Rattle.rules.specs.Plan.{Reply, say, show, send, Plan, plain, withLooked}
 use Rattle.rules.specs.Rules.{onBus, act, decide}
@@ -30,16 +34,16 @@ VALUE = 1
 abbrev NOTSENT : ℕ
 NOTSENT = 14
 
--- "read", "refused", "ignored", "heldoff", "unmatched", "notsent"
+-- "read", "refused", "ignored", "waiting", "heldoff", "unmatched", "notsent"
 unfoldable pub keepsLines : Answer → Bool
 keepsLines a =
-    changesNothing a || eqb (wordOf a) VALUE || eqb (wordOf a) HELDOFF || eqb (wordOf a) UNMATCHED || eqb (wordOf a) NOTSENT
+    changesNothing a || eqb (wordOf a) VALUE || eqb (wordOf a) WAITING || eqb (wordOf a) HELDOFF || eqb (wordOf a) UNMATCHED || eqb (wordOf a) NOTSENT
 
-pub keeps-six : (n : ℕ) →
-    (keepsLines (Value n) ≡ true) × (keepsLines (HeldOff n) ≡ true) × (keepsLines (Refused n) ≡ true)
+pub keeps-seven : (n : ℕ) →
+    (keepsLines (Value n) ≡ true) × (keepsLines (Waiting n) ≡ true) × (keepsLines (HeldOff n) ≡ true) × (keepsLines (Refused n) ≡ true)
     × (keepsLines Unmatched ≡ true) × (keepsLines Ignored ≡ true) × (keepsLines NotSent ≡ true)
 unfolding keepsLines
-keeps-six n = (refl, refl, refl, refl, refl, refl)
+keeps-seven n = (refl, refl, refl, refl, refl, refl, refl)
 
 pub keeps-no-other : (n : ℕ) (k : SyncKind) →
     (keepsLines Ok ≡ false) × (keepsLines (Stored n) ≡ false) × (keepsLines (Queued n) ≡ false) × (keepsLines (Sent n) ≡ false)
@@ -55,10 +59,15 @@ keepsBy (send n) = false
 
 -- ---- the plans that are answered so
 
--- the last identifier is in no flag
-raise-kept : (c : Control) (i : ℕ) → linesOf (raiseLast c i) ≡ linesOf c
-unfolding linesOf risr gisr rxif txif receivePending transmitPending lockif raiseLast
+-- the last identifier is in no flag, nor is SLPRQ
+raise-kept : (c : Control) (i : ℕ) → linesOf (raiseLast (cancel c) i) ≡ linesOf c
+unfolding linesOf risr gisr rxif txif receivePending transmitPending lockif raiseLast cancel
 raise-kept c i = refl
+
+-- nor are the waiting places
+hold-kept : (c : Control) (p : Places) → linesOf (withPlaces c p) ≡ linesOf c
+unfolding linesOf risr gisr rxif txif receivePending transmitPending lockif
+hold-kept c p = refl
 
 -- a plan that leaves the lines of c if it is answered so
 record Kept (c : Control) (p : Plan) : Type 0 where
@@ -78,7 +87,7 @@ module _ (c : Control) where
 
   bus-kept : (x y : Plan) → Kept c x → Kept c y → Kept c (onBus c x y)
   unfolding onBus
-  bus-kept x y p q = pick-keeps (Kept c) (c .mode .init) (λ t. same _ refl) (λ t. pick-keeps (Kept c) (c .mode .slpak) (λ u. p) (λ u. q))
+  bus-kept x y p q = pick-keeps (Kept c) (c .mode .init) (λ t. same _ refl) (λ t. pick-keeps (Kept c) (asleep c) (λ u. p) (λ u. q))
 
   due-kept : (hs : List Head) → Kept c (dueSync c hs)
   unfolding dueSync keepsLines
@@ -92,8 +101,12 @@ module _ (c : Control) where
       (λ t. pick-keeps (Kept c) (ltb (c .mode .last) i && ltb n 16) (λ u. other _ refl) (λ u. same _ refl))
 
   buffer-kept : (d : Control) (n : ℕ) → linesOf d ≡ linesOf c → Kept c (toBuffer d n)
-  unfolding toBuffer keepsLines
-  buffer-kept d n e = pick-keeps (Kept c) (isLocked d n) (λ t. same _ e) (λ t. other _ refl)
+  unfolding toBuffer toPlace keepsLines
+  buffer-kept d n e =
+      pick-keeps (Kept c) (isLocked d n)
+      (λ t. pick-keeps (Kept c) (isFree d 0) (λ u. same _ (hold-kept d _ ∙ e))
+      (λ u. pick-keeps (Kept c) (isFree d 1) (λ x. same _ (hold-kept d _ ∙ e)) (λ x. same _ e)))
+      (λ t. other _ refl)
 
   fifo-kept : (d : Control) (i : ℕ) → linesOf d ≡ linesOf c → Kept c (toFifo d i)
   unfolding toFifo keepsLines
@@ -108,7 +121,7 @@ module _ (c : Control) where
       let e = raise-kept c i in
       pick-keeps (Kept c) (not (c .mode .synced)) (λ t. same _ refl)
       (λ t. pick-keeps (Kept c) (not good || eqb i 0) (λ u. other _ refl)
-      (λ u. counted-kept _ _ (pick-keeps (Kept c) (ltb n 16) (λ x. buffer-kept (raiseLast c i) n e) (λ x. fifo-kept (raiseLast c i) i e))))
+      (λ u. counted-kept _ _ (pick-keeps (Kept c) (ltb n 16) (λ x. buffer-kept (raiseLast (cancel c) i) n e) (λ x. fifo-kept (raiseLast (cancel c) i) i e))))
 
   act-kept : (hs : List Head) (e : Step) → Kept c (act c hs e)
   unfolding act keepsLines

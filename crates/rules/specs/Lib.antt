@@ -3,6 +3,7 @@ pub mod Registers
 pub mod Reads
 pub mod Record
 pub mod Kinds
+pub mod Waiting
 pub mod Writes
 pub mod Modes
 pub mod Bus
@@ -24,4 +25,5 @@ pub mod UntouchedLaws
 pub mod SendingLaws
 pub mod KeptLinesLaws
 pub mod LookedLaws
+pub mod OpenFilterLaws
 pub mod BusPlanLaws

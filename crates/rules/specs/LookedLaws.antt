@@ -16,10 +16,12 @@ use Rattle.contents.specs.Bytes.{Head}
 use Rattle.rules.specs.declared.Register.{Register}
 use Rattle.rules.specs.declared.Answer.{Answer}
 use Rattle.rules.specs.declared.Control.{Control}
-use Rattle.rules.specs.Registers.{registerAt, regionOf, Region, sendPlace, receivePlace, fifoPlace, elsewhere}
+use Rattle.rules.specs.Registers.{registerAt, regionOf, Region, sendPlace, receivePlace, fifoPlace, controlOf, elsewhere}
 use Rattle.rules.specs.Kinds.{isLocked, isReceive}
+use Rattle.rules.specs.Waiting.{asleep, isFree}
+use Rattle.rules.specs.Modes.{cancel}
 use Rattle.rules.specs.Reads.{windowReply, replyIn, readReply}
-use Rattle.rules.specs.Bus.{raiseGisr, dueSync, lookup, toBuffer, fifoTakes, toFifo, raiseLast, examined, found, judged, received, offers, sendFrom, slotFor, slotted}
+use Rattle.rules.specs.Bus.{raiseGisr, dueSync, lookup, toPlace, toBuffer, fifoTakes, toFifo, raiseLast, examined, found, judged, received, offers, sendFrom, slotFor, slotted}
 use Rattle.rules.specs.Refusals.{refusal}
 use Rattle.rules.specs.Answers.{givenOf, numberIn, isFound, isLookedUp}
 use Rattle.rules.specs.Steps.{Step, reset, read, write, sync, syncDue, slot, frame, fault, timeout}
@@ -68,6 +70,7 @@ unfolding lookedBy pick
 reply-told c hs (sendPlace p) v = window-told c hs _ p
 reply-told c hs (receivePlace p) v = window-told c hs _ p
 reply-told c hs (fifoPlace p) v = window-told c hs _ p
+reply-told c hs (controlOf n) v = refl
 reply-told c hs elsewhere v = refl
 
 read-told : (c : Control) (hs : List Head) (r : Register) → 0 ≡ lookedIn c (readReply c hs r)
@@ -77,7 +80,7 @@ read-told c hs r = reply-told c hs (regionOf r) _
 module _ (c : Control) where
   bus-told : (x y : Plan) → Told x → Told y → Told (onBus c x y)
   unfolding onBus lookedBy pick
-  bus-told x y p q = pick-keeps Told (c .mode .init) (λ t. by _ refl) (λ t. pick-keeps Told (c .mode .slpak) (λ u. p) (λ u. q))
+  bus-told x y p q = pick-keeps Told (c .mode .init) (λ t. by _ refl) (λ t. pick-keeps Told (asleep c) (λ u. p) (λ u. q))
 
   due-told : (hs : List Head) → Told (dueSync c hs)
   unfolding dueSync lookedBy pick
@@ -94,8 +97,11 @@ module _ (c : Control) where
   Counts k p = k ≡ lookedIn (p .control) (p .reply)
 
   buffer-told : (i n : ℕ) → Counts (examined c n) (toBuffer (raiseLast c i) n)
-  unfolding toBuffer raiseLast lookedBy examined isReceive pick
-  buffer-told i n = pick-keeps (Counts (examined c n)) (isLocked (raiseLast c i) n) (λ t. refl) (λ t. refl)
+  unfolding toBuffer toPlace raiseLast lookedBy examined isReceive pick
+  buffer-told i n =
+      pick-keeps (Counts (examined c n)) (isLocked (raiseLast c i) n)
+      (λ t. pick-keeps (Counts (examined c n)) (isFree c 0) (λ u. refl) (λ u. pick-keeps (Counts (examined c n)) (isFree c 1) (λ x. refl) (λ x. refl)))
+      (λ t. refl)
 
   fifo-told : (i : ℕ) → Counts (examined c 16) (toFifo (raiseLast c i) i)
   unfolding toFifo raiseLast lookedBy examined isReceive pick
@@ -108,23 +114,24 @@ module _ (c : Control) where
   found-told i n =
       by _ (pick-keeps (Counts (examined c n)) (ltb n 16) (λ t. buffer-told i n) (λ t. examined-all c n t ∙ fifo-told i))
 
+module _ (c : Control) where
   frame-told : (hs : List Head) (good : Bool) (i : ℕ) → Told (received c hs good i)
   unfolding received judged lookedBy pick
   frame-told hs good i =
       pick-keeps Told (not (c .mode .synced)) (λ t. by _ refl)
-      (λ t. pick-keeps Told (not good || eqb i 0) (λ u. by _ refl) (λ u. found-told i (lookup c hs i)))
+      (λ t. pick-keeps Told (not good || eqb i 0) (λ u. by _ refl) (λ u. found-told (cancel c) i (lookup c hs i)))
 
   act-told : (hs : List Head) (e : Step) → Told (act c hs e)
   unfolding act lookedBy pick
   act-told hs reset = by _ refl
   act-told hs (read a) = by _ (read-told c hs (registerAt a))
   act-told hs (write a v) = by _ refl
-  act-told hs (sync k) = bus-told _ _ (by _ refl) (by _ refl)
-  act-told hs syncDue = bus-told _ _ (by _ refl) (due-told hs)
-  act-told hs (slot i room) = bus-told _ _ (by _ refl) (slot-told hs i)
-  act-told hs (frame good f) = bus-told _ _ (by _ refl) (frame-told hs good (getD f 0 0))
-  act-told hs (fault k) = bus-told _ _ (by _ refl) (by _ refl)
-  act-told hs timeout = bus-told _ _ (by _ refl) (by _ refl)
+  act-told hs (sync k) = bus-told c _ _ (by _ refl) (by _ refl)
+  act-told hs syncDue = bus-told c _ _ (by _ refl) (due-told c hs)
+  act-told hs (slot i room) = bus-told c _ _ (by _ refl) (slot-told c hs i)
+  act-told hs (frame good f) = bus-told c _ _ (by _ refl) (frame-told hs good (getD f 0 0))
+  act-told hs (fault k) = bus-told c _ _ (by _ refl) (by _ refl)
+  act-told hs timeout = bus-told c _ _ (by _ refl) (by _ refl)
 
   pub decide-told : (hs : List Head) (e : Step) → Told (decide c hs e)
   unfolding decide lookedBy pick

@@ -7,20 +7,20 @@ use Rattle.masks.specs.Bits.{maskOf}
 use Rattle.rules.specs.declared.Mode.{Mode}
 use Rattle.rules.specs.declared.Buffers.{Buffers}
 use Rattle.rules.specs.declared.Control.{Control}
-use Rattle.rules.specs.Record.{withMode, withBuffers, withSleep, withSynced, withArmed, withIflg, withRier, withGier}
-use Rattle.rules.specs.Registers.{has, INITRQ, MASTER, ALARM, SLPRQ, WPULSE, SSWAI, LOCKIE, noEvents, emptyFifo}
+use Rattle.rules.specs.Record.{withMode, withBuffers, withSlprq, withSynced, withArmed, withIflg, withRier, withGier}
+use Rattle.rules.specs.Registers.{has, INITRQ, MASTER, ALARM, SLPRQ, WPULSE, SSWAI, LOCKIE, noEvents, emptyFifo, noPlaces}
 use Rattle.rules.specs.Kinds.{isTransmit, hasIflg}
+use Rattle.rules.specs.Waiting.{asleep}
 
 -- ---- initialization
 
--- INITRQ and INITAK 1; no synchronization and no sleep
+-- INITRQ and INITAK 1; no synchronization, and SLPRQ cancelled
 abbrev pub enteredMode : Mode → Mode
 enteredMode m =
     record {
       init = true;
       master = m .master;
       alarm = m .alarm;
-      slpak = false;
       slprq = false;
       wpulse = m .wpulse;
       sswai = m .sswai;
@@ -34,7 +34,8 @@ enteredBuffers b = record { cfg = b .cfg; iena = b .iena; iflg = 0; abtak = 0; a
 
 -- "Entering initialization (INITRQ 0 to 1, or a lock error) clears $08, $09 but LOCKIE, all event flags [..], every IFLG
 -- and ABTAK, arming, synchronization, sleep (SLPRQ, SLPAK) and any remembered clear. It empties the FIFO, both indices 0,
--- and releases the FIFO lock. [..] entering changes nothing else, so other locks stay."
+-- and releases the FIFO lock. [..] entering changes nothing else, so other locks stay." W5: "Entering initialization and reset empty both
+-- [places], storing nothing, and cancel SLPRQ."
 unfoldable pub enter : Control → Control
 enter c =
     record {
@@ -44,6 +45,7 @@ enter c =
       fifo = emptyFifo;
       receive = c .receive;
       transmit = c .transmit;
+      places = noPlaces;
       buffers = enteredBuffers (c .buffers);
     }
 
@@ -53,7 +55,6 @@ leftMode m =
       init = false;
       master = m .master;
       alarm = m .alarm;
-      slpak = m .slpak;
       slprq = m .slprq;
       wpulse = m .wpulse;
       sswai = m .sswai;
@@ -73,13 +74,18 @@ disarmAll c = withBuffers c (withArmed (c .buffers) 0)
 
 -- "Every waking clears SLPRQ and SLPAK, loses synchronization and clears arming."
 unfoldable pub wake : Control → Control
-wake c = disarmAll (withMode c (withSynced (withSleep (c .mode) false) false))
+wake c = disarmAll (withMode c (withSynced (withSlprq (c .mode) false) false))
+
+-- W5: "cancels SLPRQ; that is no waking"
+unfoldable pub cancel : Control → Control
+cancel c = withMode c (withSlprq (c .mode) false)
 
 -- For a write with normal operation before and after it: "SLPRQ 1 sets SLPRQ and SLPAK if [..] BFEN is 1; otherwise it is
--- ignored. SLPRQ written 0 while asleep wakes, without WAKEIF."
+-- ignored. SLPRQ written 0 while asleep wakes, without WAKEIF." W5: "SLPRQ with a place taken sets SLPRQ alone", and SLPRQ written 0
+-- then cancels it. SLPAK is SLPRQ with no place taken (`asleep`), so that SLPRQ is all there is to set.
 unfoldable pub writeSleep : Control → Bool → Control
-writeSleep c true = pick (c .config .bfen) (withMode c (withSleep (c .mode) true)) c
-writeSleep c false = pick (c .mode .slpak) (wake c) c
+writeSleep c true = pick (c .config .bfen) (withMode c (withSlprq (c .mode) true)) c
+writeSleep c false = pick (asleep c) (wake c) (cancel c)
 
 -- ---- $00
 
@@ -90,7 +96,6 @@ writtenMode m v =
       init = m .init;
       master = pick (m .init) (has v MASTER) (m .master);
       alarm = has v ALARM;
-      slpak = m .slpak;
       slprq = m .slprq;
       wpulse = pick (m .init) (has v WPULSE) (m .wpulse);
       sswai = has v SSWAI;

@@ -13,7 +13,7 @@ headAt hs n = getD hs n noHead
 
 -- what a plan does to the buffers' bytes
 pub data Move : Type 0 where
-  -- every buffer zero
+  -- every buffer and both places zero
   wipe : Move
   -- identifier, or length, of buffer n becomes v
   setIdent : ℕ → ℕ → Move
@@ -22,6 +22,10 @@ pub data Move : Type 0 where
   setData : ℕ → ℕ → Move
   -- the frame that the step brings is stored in buffer n
   store : ℕ → Move
+  -- it waits in place k
+  hold : ℕ → Move
+  -- the frame in place k is stored in buffer n
+  release : ℕ → ℕ → Move
 
 -- what a plan answers
 pub data Reply : Type 0 where

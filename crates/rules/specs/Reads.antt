@@ -11,18 +11,20 @@ use Rattle.rules.specs.declared.Register.the-variants.{Mcr, Fsizr, Tcr1,
 use Rattle.rules.specs.declared.Answer.the-variants.{Value}
 use Rattle.rules.specs.declared.Mode.{Mode}
 use Rattle.rules.specs.declared.Control.{Control}
-use Rattle.rules.specs.Registers.{Region, sendPlace, receivePlace, fifoPlace, elsewhere, regionOf, withFlag, INITRQ, MASTER, ALARM, SLPAK, SLPRQ, WPULSE, SSWAI, INITAK, BFEN, TXBUFLOCK, RXBUFLOCK, CFG, IENA, IFLG, LOCK, ABTAK}
+use Rattle.rules.specs.Registers.{Region, sendPlace, receivePlace, fifoPlace, controlOf, elsewhere, regionOf, withFlag, INITRQ, MASTER, ALARM, SLPAK, SLPRQ, WPULSE, SSWAI, INITAK, BFEN, TXBUFLOCK, RXBUFLOCK, CFG, IENA, IFLG, LOCK, ABTAK}
 use Rattle.rules.specs.Kinds.{isTransmit, hasIena, hasIflg, hasAbtak, isLocked, fifoHolder}
+use Rattle.rules.specs.Waiting.{asleep}
 use Rattle.rules.specs.Flags.{risr, gisr, receiveVector, transmitVector}
 use Rattle.rules.specs.Plan.{headAt, Reply, say, show}
 
-unfoldable pub mcr : Mode → ℕ
-mcr m =
+-- $00, with SLPAK as given
+unfoldable pub mcr : Bool → Mode → ℕ
+mcr slpak m =
     withFlag (m .init) INITAK
     (withFlag (m .sswai) SSWAI
     (withFlag (m .wpulse) WPULSE
     (withFlag (m .slprq) SLPRQ
-    (withFlag (m .slpak) SLPAK
+    (withFlag slpak SLPAK
     (withFlag (m .alarm) ALARM
     (withFlag (m .master) MASTER
     (withFlag (m .init) INITRQ 0)))))))
@@ -44,7 +46,7 @@ bufctl c n =
 
 -- every register but the windows
 unfoldable pub valueOf : Control → Register → ℕ
-valueOf c Mcr = mcr (c .mode)
+valueOf c Mcr = mcr (asleep c) (c .mode)
 valueOf c Fsizr = c .config .fsiz
 valueOf c Tcr1 = c .config .tcr1
 valueOf c Tcr2 = c .config .tcr2
@@ -82,6 +84,7 @@ abbrev pub replyIn : Control → List Head → Region → ℕ → Reply
 replyIn c hs (sendPlace p) v = windowReply hs (c .transmit .holder) p
 replyIn c hs (receivePlace p) v = windowReply hs (c .receive .holder) p
 replyIn c hs (fifoPlace p) v = windowReply hs (fifoHolder c) p
+replyIn c hs (controlOf n) v = say (Value v)
 replyIn c hs elsewhere v = say (Value v)
 
 unfoldable pub readReply : Control → List Head → Register → Reply

@@ -7,46 +7,49 @@ use Rattle.rules.specs.declared.Mode.{Mode}
 use Rattle.rules.specs.declared.Config.{Config}
 use Rattle.rules.specs.declared.Events.{Events}
 use Rattle.rules.specs.declared.Fifo.{Fifo}
+use Rattle.rules.specs.declared.Places.{Places}
 use Rattle.rules.specs.declared.Buffers.{Buffers}
 use Rattle.rules.specs.declared.Control.{Control}
 
 -- ---- parts of the control state
 
 abbrev pub withMode : Control → Mode → Control
-withMode c x = record { mode = x; config = c .config; events = c .events; fifo = c .fifo; receive = c .receive; transmit = c .transmit; buffers = c .buffers }
+withMode c x = record { mode = x; config = c .config; events = c .events; fifo = c .fifo; receive = c .receive; transmit = c .transmit; places = c .places; buffers = c .buffers }
 
 abbrev pub withConfig : Control → Config → Control
-withConfig c x = record { mode = c .mode; config = x; events = c .events; fifo = c .fifo; receive = c .receive; transmit = c .transmit; buffers = c .buffers }
+withConfig c x = record { mode = c .mode; config = x; events = c .events; fifo = c .fifo; receive = c .receive; transmit = c .transmit; places = c .places; buffers = c .buffers }
 
 abbrev pub withEvents : Control → Events → Control
-withEvents c x = record { mode = c .mode; config = c .config; events = x; fifo = c .fifo; receive = c .receive; transmit = c .transmit; buffers = c .buffers }
+withEvents c x = record { mode = c .mode; config = c .config; events = x; fifo = c .fifo; receive = c .receive; transmit = c .transmit; places = c .places; buffers = c .buffers }
 
 abbrev pub withFifo : Control → Fifo → Control
-withFifo c x = record { mode = c .mode; config = c .config; events = c .events; fifo = x; receive = c .receive; transmit = c .transmit; buffers = c .buffers }
+withFifo c x = record { mode = c .mode; config = c .config; events = c .events; fifo = x; receive = c .receive; transmit = c .transmit; places = c .places; buffers = c .buffers }
 
 abbrev pub withReceive : Control → Locks → Control
-withReceive c x = record { mode = c .mode; config = c .config; events = c .events; fifo = c .fifo; receive = x; transmit = c .transmit; buffers = c .buffers }
+withReceive c x = record { mode = c .mode; config = c .config; events = c .events; fifo = c .fifo; receive = x; transmit = c .transmit; places = c .places; buffers = c .buffers }
 
 abbrev pub withTransmit : Control → Locks → Control
-withTransmit c x = record { mode = c .mode; config = c .config; events = c .events; fifo = c .fifo; receive = c .receive; transmit = x; buffers = c .buffers }
+withTransmit c x = record { mode = c .mode; config = c .config; events = c .events; fifo = c .fifo; receive = c .receive; transmit = x; places = c .places; buffers = c .buffers }
+
+abbrev pub withPlaces : Control → Places → Control
+withPlaces c x = record { mode = c .mode; config = c .config; events = c .events; fifo = c .fifo; receive = c .receive; transmit = c .transmit; places = x; buffers = c .buffers }
 
 abbrev pub withBuffers : Control → Buffers → Control
-withBuffers c x = record { mode = c .mode; config = c .config; events = c .events; fifo = c .fifo; receive = c .receive; transmit = c .transmit; buffers = x }
+withBuffers c x = record { mode = c .mode; config = c .config; events = c .events; fifo = c .fifo; receive = c .receive; transmit = c .transmit; places = c .places; buffers = x }
 
 -- ---- mode
 
 abbrev pub withAlarm : Mode → Bool → Mode
-withAlarm m x = record { init = m .init; master = m .master; alarm = x; slpak = m .slpak; slprq = m .slprq; wpulse = m .wpulse; sswai = m .sswai; synced = m .synced; last = m .last }
+withAlarm m x = record { init = m .init; master = m .master; alarm = x; slprq = m .slprq; wpulse = m .wpulse; sswai = m .sswai; synced = m .synced; last = m .last }
 
--- SLPRQ and SLPAK
-abbrev pub withSleep : Mode → Bool → Mode
-withSleep m x = record { init = m .init; master = m .master; alarm = m .alarm; slpak = x; slprq = x; wpulse = m .wpulse; sswai = m .sswai; synced = m .synced; last = m .last }
+abbrev pub withSlprq : Mode → Bool → Mode
+withSlprq m x = record { init = m .init; master = m .master; alarm = m .alarm; slprq = x; wpulse = m .wpulse; sswai = m .sswai; synced = m .synced; last = m .last }
 
 abbrev pub withSynced : Mode → Bool → Mode
-withSynced m x = record { init = m .init; master = m .master; alarm = m .alarm; slpak = m .slpak; slprq = m .slprq; wpulse = m .wpulse; sswai = m .sswai; synced = x; last = m .last }
+withSynced m x = record { init = m .init; master = m .master; alarm = m .alarm; slprq = m .slprq; wpulse = m .wpulse; sswai = m .sswai; synced = x; last = m .last }
 
 abbrev pub withLast : Mode → ℕ → Mode
-withLast m x = record { init = m .init; master = m .master; alarm = m .alarm; slpak = m .slpak; slprq = m .slprq; wpulse = m .wpulse; sswai = m .sswai; synced = m .synced; last = x }
+withLast m x = record { init = m .init; master = m .master; alarm = m .alarm; slprq = m .slprq; wpulse = m .wpulse; sswai = m .sswai; synced = m .synced; last = x }
 
 -- ---- configuration
 

@@ -11,6 +11,7 @@ use Rattle.contents.specs.Bytes.{cut}
 use Rattle.rules.specs.declared.Control.{Control}
 use Rattle.rules.specs.Registers.{has, between, INITRQ, CFG, LOCK}
 use Rattle.rules.specs.Kinds.{isTransmit, isLocked, isOldest, isLawful}
+use Rattle.rules.specs.Waiting.{asleep}
 use Rattle.rules.specs.Writes.{cfgAfter}
 use Rattle.rules.specs.Steps.{Step, reset, read, write, sync, syncDue, slot, frame, fault, timeout}
 
@@ -20,7 +21,7 @@ refuses1 a = ltb 0x5F a
 
 -- 2: "asleep, register call other than $00"
 unfoldable pub refuses2 : Control → ℕ → Bool
-refuses2 c a = c .mode .slpak && not (eqb a 0)
+refuses2 c a = asleep c && not (eqb a 0)
 
 -- 3: "write to $0A, $0B, $0E, $12, $40-$4D"
 unfoldable pub refuses3 : ℕ → Bool

@@ -6,11 +6,12 @@ use lib.ListN.{getD}
 use lib.Dec.{eqb, ltb, leb}
 use lib.Bits.{bitOr}
 use Rattle.masks.specs.Pick.{pick}
-use Rattle.locks.specs.Pair.{noLocks}
+use Rattle.locks.specs.Pair.{none, noLocks}
 use Rattle.rules.specs.declared.Register.{Register}
 use Rattle.rules.specs.declared.Register.the-variants.{Mcr, Fsizr, Tcr1, Tcr2, Tcr3, Risr, Gisr, Rier, Gier, Rivec, Tivec, Fidac, Fidmr, Mvr, Pctlbf, Buflock, Fidrj, Fidrmr, TransmitWindow, ReceiveWindow, FifoWindow, Bufctl, Reserved}
 use Rattle.rules.specs.declared.Fifo.{Fifo}
 use Rattle.rules.specs.declared.Events.{Events}
+use Rattle.rules.specs.declared.Places.{Places}
 use Rattle.rules.specs.declared.Control.{Control}
 
 -- ---- bits, each by its weight in the register
@@ -150,9 +151,10 @@ registerAt a =
     (pick (ltb a 0x50) (windowMap FifoWindow (a - 0x40))
     (pick (ltb a 0x60) (Bufctl (a - 0x50)) Reserved))))
 
--- ---- the windows: a register is a place of one of them, or none
+-- ---- the registers by what they reach of the buffers' bytes: a window's place shows or changes a byte, and the control register of
+-- buffer n can release the frames that wait for it; the others reach none
 pub data Region : Type 0 where
-  sendPlace receivePlace fifoPlace : ℕ → Region
+  sendPlace receivePlace fifoPlace controlOf : ℕ → Region
   elsewhere : Region
 
 abbrev pub regionOf : Register → Region
@@ -177,7 +179,7 @@ regionOf Fidrmr = elsewhere
 regionOf (TransmitWindow p) = sendPlace p
 regionOf (ReceiveWindow p) = receivePlace p
 regionOf (FifoWindow p) = fifoPlace p
-regionOf (Bufctl n) = elsewhere
+regionOf (Bufctl n) = controlOf n
 regionOf Reserved = elsewhere
 
 -- ---- after reset: "zero everywhere, buffers too (h), but $00 = $81, $0A = $0B = $10, $0D = $FF (h), $15 = $FF"
@@ -189,10 +191,14 @@ noEvents = record { risr = 0; gisr = 0; clearing = false }
 abbrev pub emptyFifo : Fifo
 emptyFifo = record { oldest = 0; next = 0; count = 0; locked = false }
 
+-- both waiting places free (W5)
+abbrev pub noPlaces : Places
+noPlaces = record { first = none; second = none; swapped = false }
+
 unfoldable pub resetControl : Control
 resetControl =
     record {
-      mode = record { init = true; master = false; alarm = false; slpak = false; slprq = false; wpulse = false; sswai = false; synced = false; last = 0 };
+      mode = record { init = true; master = false; alarm = false; slprq = false; wpulse = false; sswai = false; synced = false; last = 0 };
       config = record {
         fsiz = 0;
         tcr1 = 0;
@@ -208,5 +214,6 @@ resetControl =
       fifo = emptyFifo;
       receive = noLocks;
       transmit = noLocks;
+      places = noPlaces;
       buffers = record { cfg = 0; iena = 0; iflg = 0; abtak = 0; armed = 0 };
     }

@@ -11,10 +11,12 @@ use Rattle.masks.specs.Bits.{highest}
 use Rattle.contents.specs.Bytes.{Head}
 use Rattle.rules.specs.declared.Register.{Register}
 use Rattle.rules.specs.declared.Control.{Control}
-use Rattle.rules.specs.Registers.{Region, sendPlace, receivePlace, fifoPlace, elsewhere, regionOf, registerAt}
+use Rattle.rules.specs.Registers.{Region, sendPlace, receivePlace, fifoPlace, controlOf, elsewhere, regionOf, registerAt}
 use Rattle.rules.specs.Kinds.{isLocked}
+use Rattle.rules.specs.Waiting.{asleep, isFree}
+use Rattle.rules.specs.Modes.{cancel}
 use Rattle.rules.specs.Reads.{windowReply, replyIn, readReply}
-use Rattle.rules.specs.Bus.{dueSync, lookup, toBuffer, fifoTakes, toFifo, raiseLast, found, judged, received, offers, sendFrom, slotFor, slotted}
+use Rattle.rules.specs.Bus.{dueSync, lookup, toPlace, toBuffer, fifoTakes, toFifo, raiseLast, found, judged, received, offers, sendFrom, slotFor, slotted}
 use Rattle.rules.specs.Refusals.{refusal}
 use Rattle.rules.specs.Answers.{isSent}
 use Rattle.rules.specs.Steps.{Step, reset, read, write, sync, syncDue, slot, frame, fault, timeout}
@@ -46,6 +48,7 @@ reply-honest : (c : Control) (hs : List Head) (g : Region) (v : ℕ) → HonestR
 reply-honest c hs (sendPlace p) v = window-honest hs _ p
 reply-honest c hs (receivePlace p) v = window-honest hs _ p
 reply-honest c hs (fifoPlace p) v = window-honest hs _ p
+reply-honest c hs (controlOf n) v = record { honest = refl }
 reply-honest c hs elsewhere v = record { honest = refl }
 
 read-honest : (c : Control) (hs : List Head) (r : Register) → HonestReply (readReply c hs r)
@@ -54,7 +57,7 @@ read-honest c hs r = reply-honest c hs (regionOf r) _
 
 bus-honest : (c : Control) (p q : Plan) → Honest p → Honest q → Honest (onBus c p q)
 unfolding onBus
-bus-honest c p q x y = pick-keeps Honest (c .mode .init) (λ t. ok _ refl) (λ t. pick-keeps Honest (c .mode .slpak) (λ u. x) (λ u. y))
+bus-honest c p q x y = pick-keeps Honest (c .mode .init) (λ t. ok _ refl) (λ t. pick-keeps Honest (asleep c) (λ u. x) (λ u. y))
 
 due-honest : (c : Control) (hs : List Head) → Honest (dueSync c hs)
 unfolding dueSync
@@ -69,8 +72,10 @@ slot-honest c hs i =
     (λ u. ok _ refl) (λ u. ok _ refl))
 
 buffer-honest : (c : Control) (n : ℕ) → Honest (toBuffer c n)
-unfolding toBuffer
-buffer-honest c n = pick-keeps Honest (isLocked c n) (λ t. ok _ refl) (λ t. ok _ refl)
+unfolding toBuffer toPlace
+buffer-honest c n =
+    pick-keeps Honest (isLocked c n)
+    (λ t. pick-keeps Honest (isFree c 0) (λ u. ok _ refl) (λ u. pick-keeps Honest (isFree c 1) (λ x. ok _ refl) (λ x. ok _ refl))) (λ t. ok _ refl)
 
 fifo-honest : (c : Control) (i : ℕ) → Honest (toFifo c i)
 unfolding toFifo
@@ -83,7 +88,7 @@ unfolding received judged found
 frame-honest c hs good i =
     pick-keeps Honest (not (c .mode .synced)) (λ t. ok _ refl)
     (λ t. pick-keeps Honest (not good || eqb i 0) (λ u. ok _ refl)
-    (λ u. ok _ (pick-keeps Honest (ltb (lookup c hs i) 16) (λ x. buffer-honest (raiseLast c i) (lookup c hs i)) (λ x. fifo-honest (raiseLast c i) i) .honest)))
+    (λ u. ok _ (pick-keeps Honest (ltb (lookup c hs i) 16) (λ x. buffer-honest (raiseLast (cancel c) i) (lookup c hs i)) (λ x. fifo-honest (raiseLast (cancel c) i) i) .honest)))
 
 act-honest : (c : Control) (hs : List Head) (e : Step) → Honest (act c hs e)
 unfolding act

@@ -12,7 +12,9 @@ use Rattle.rules.specs.declared.Answer.{Answer}
 use Rattle.rules.specs.declared.Answer.the-variants.{Refused, Ignored}
 use Rattle.rules.specs.declared.Control.{Control}
 use Rattle.rules.specs.Kinds.{isLocked}
-use Rattle.rules.specs.Bus.{dueSync, lookup, toBuffer, fifoTakes, toFifo, raiseLast, found, judged, received, offers, sendFrom, slotFor, slotted}
+use Rattle.rules.specs.Waiting.{asleep, isFree}
+use Rattle.rules.specs.Modes.{cancel}
+use Rattle.rules.specs.Bus.{dueSync, lookup, toPlace, toBuffer, fifoTakes, toFifo, raiseLast, found, judged, received, offers, sendFrom, slotFor, slotted}
 use Rattle.rules.specs.Refusals.{refusal}
 use Rattle.rules.specs.Answers.{changesNothing}
 use Rattle.rules.specs.Steps.{Step, reset, read, write, sync, syncDue, slot, frame, fault, timeout}
@@ -46,7 +48,7 @@ counted-still p k s = record { same-control = s .same-control; no-moves = s .no-
 module _ (c : Control) where
   bus-still : (x y : Plan) → Still c x → Still c y → Still c (onBus c x y)
   unfolding onBus
-  bus-still x y p q = pick-keeps (Still c) (c .mode .init) (λ t. same c Ignored) (λ t. pick-keeps (Still c) (c .mode .slpak) (λ u. p) (λ u. q))
+  bus-still x y p q = pick-keeps (Still c) (c .mode .init) (λ t. same c Ignored) (λ t. pick-keeps (Still c) (asleep c) (λ u. p) (λ u. q))
 
   due-still : (hs : List Head) → Still c (dueSync c hs)
   unfolding dueSync
@@ -54,8 +56,11 @@ module _ (c : Control) where
       pick-keeps (Still c) (c .mode .master) (λ t. other _ refl) (λ t. same c Ignored)
 
   buffer-still : (d : Control) (n : ℕ) → Still c (toBuffer d n)
-  unfolding toBuffer
-  buffer-still d n = pick-keeps (Still c) (isLocked d n) (λ t. other _ refl) (λ t. other _ refl)
+  unfolding toBuffer toPlace
+  buffer-still d n =
+      pick-keeps (Still c) (isLocked d n)
+      (λ t. pick-keeps (Still c) (isFree d 0) (λ u. other _ refl) (λ u. pick-keeps (Still c) (isFree d 1) (λ x. other _ refl) (λ x. other _ refl)))
+      (λ t. other _ refl)
 
   fifo-still : (d : Control) (i : ℕ) → Still c (toFifo d i)
   unfolding toFifo
@@ -69,7 +74,7 @@ module _ (c : Control) where
       pick-keeps (Still c) (not (c .mode .synced)) (λ t. same c Ignored)
       (λ t. pick-keeps (Still c) (not good || eqb i 0) (λ u. other _ refl)
       (λ u. counted-still _ _
-      (pick-keeps (Still c) (ltb (lookup c hs i) 16) (λ x. buffer-still (raiseLast c i) (lookup c hs i)) (λ x. fifo-still (raiseLast c i) i))))
+      (pick-keeps (Still c) (ltb (lookup c hs i) 16) (λ x. buffer-still (raiseLast (cancel c) i) (lookup c hs i)) (λ x. fifo-still (raiseLast (cancel c) i) i))))
 
   slot-still : (hs : List Head) (i : ℕ) → Still c (slotted c hs i)
   unfolding slotted slotFor sendFrom

@@ -16,16 +16,17 @@ use Rattle.rules.specs.declared.SyncKind.{SyncKind}
 use Rattle.rules.specs.declared.Fault.{Fault}
 use Rattle.rules.specs.declared.Fault.the-variants.{Early, Lost, Illegal, Mismatch}
 use Rattle.rules.specs.declared.Answer.{Answer}
-use Rattle.rules.specs.declared.Answer.the-variants.{Ok, Pulse, Refused, Ignored, Woke}
+use Rattle.rules.specs.declared.Answer.the-variants.{Ok, Pulse, Refused, BadFrame, Ignored, Woke}
 use Rattle.rules.specs.declared.Control.{Control}
-use Rattle.rules.specs.Registers.{withFlag, LOCK, IFLG, ABTAK, IENA, CFG}
+use Rattle.rules.specs.Registers.{withFlag, LOCK, IFLG, ABTAK, IENA, CFG, ERRIF}
 use Rattle.rules.specs.Kinds.{isArmed, isFullTransmit, isLocked, fifoHolder}
 use Rattle.rules.specs.Reads.{bufctl}
-use Rattle.rules.specs.Modes.{wake}
-use Rattle.rules.specs.Bus.{woken, arms, synced, dueKind, dueSync, timedOut, faulted, lookup, toBuffer, fifoTakes, toFifo, raiseLast, found, judged, received, offers, sendFrom, slotFor, slotted}
+use Rattle.rules.specs.Waiting.{asleep, isFree}
+use Rattle.rules.specs.Modes.{wake, cancel}
+use Rattle.rules.specs.Bus.{raiseGisr, woken, arms, synced, dueKind, dueSync, timedOut, faulted, lookup, toPlace, toBuffer, fifoTakes, toFifo, raiseLast, found, judged, received, offers, sendFrom, slotFor, slotted}
 use Rattle.rules.specs.Refusals.{refusal}
 use Rattle.rules.specs.Steps.{Step, reset, read, write, sync, syncDue, slot, frame, fault, timeout}
-use Rattle.rules.specs.Plan.{Move, store, headAt, Plan, plain, withLooked}
+use Rattle.rules.specs.Plan.{Move, store, hold, headAt, Plan, plain, withLooked}
 use Rattle.rules.specs.Rules.{onBus, act, decide}
 use Rattle.rules.specs.Untouched.{isBusEvent, TargetsFree, rolesOf}
 
@@ -33,6 +34,7 @@ use Rattle.rules.specs.Untouched.{isBusEvent, TargetsFree, rolesOf}
 pub data Avoids (n : ℕ) : List Move → Type 0 where
   none : Avoids n []
   stores : {m : ℕ} → eqb n m ≡ false → Avoids n (store m ∷ [])
+  holds : {k : ℕ} → Avoids n (hold k ∷ [])
 
 pub record Spares (c : Control) (n : ℕ) (p : Plan) : Type 0 where
   pub same-bufctl : bufctl (p .control) n ≡ bufctl c n
@@ -83,12 +85,12 @@ module _ (c : Control) (n : ℕ) (small : n < 16) (locked : isLocked c n ≡ tru
   unfolding woken wake bufctl isLocked fifoHolder
   woken-spares = record { same-bufctl = refl; same-arming = disarmed; same-roles = refl; avoided = none }
 
-  synced-spares : (k : SyncKind) (hs : List Head) (a : Answer) → Spares c n (plain (synced k c hs) a)
-  unfolding synced bufctl isLocked fifoHolder
+  synced-spares : (k : SyncKind) (hs : List Head) (a : Answer) → Spares c n (plain (synced k (cancel c) hs) a)
+  unfolding cancel synced arms bufctl isLocked fifoHolder
   synced-spares k hs a = record { same-bufctl = refl; same-arming = unarmed-on hs; same-roles = refl; avoided = none }
 
-  faulted-spares : (k : Fault) → Spares c n (plain (faulted k c) Ok)
-  unfolding faulted bufctl isLocked fifoHolder
+  faulted-spares : (k : Fault) → Spares c n (plain (faulted k (cancel c)) Ok)
+  unfolding cancel faulted bufctl isLocked fifoHolder
   faulted-spares Early = record { same-bufctl = refl; same-arming = refl; same-roles = refl; avoided = none }
   faulted-spares Lost = record { same-bufctl = refl; same-arming = disarmed; same-roles = refl; avoided = none }
   faulted-spares Illegal = record { same-bufctl = refl; same-arming = refl; same-roles = refl; avoided = none }
@@ -101,7 +103,7 @@ module _ (c : Control) (n : ℕ) (small : n < 16) (locked : isLocked c n ≡ tru
   bus-spares : (x y : Plan) → Spares c n x → (c .mode .init ≡ false → Spares c n y) → Spares c n (onBus c x y)
   unfolding onBus
   bus-spares x y p q =
-      pick-keeps (Spares c n) (c .mode .init) (λ t. same Ignored) (λ t. pick-keeps (Spares c n) (c .mode .slpak) (λ u. p) (λ u. q t))
+      pick-keeps (Spares c n) (c .mode .init) (λ t. same Ignored) (λ t. pick-keeps (Spares c n) (asleep c) (λ u. p) (λ u. q t))
 
   due-spares : (hs : List Head) → Spares c n (dueSync c hs)
   unfolding dueSync
@@ -109,26 +111,33 @@ module _ (c : Control) (n : ℕ) (small : n < 16) (locked : isLocked c n ≡ tru
       pick-keeps (Spares c n) (c .mode .master)
       (λ t. synced-spares (dueKind c) hs (Pulse (dueKind c))) (λ t. same Ignored)
 
-  -- "Locked: nothing is stored."
-  buffer-spares : (i m : ℕ) → Spares c n (toBuffer (raiseLast c i) m)
-  unfolding toBuffer raiseLast bufctl isLocked fifoHolder
+  -- locked, it waits or is dropped
+  buffer-spares : (i m : ℕ) → Spares c n (toBuffer (raiseLast (cancel c) i) m)
+  unfolding cancel toBuffer toPlace raiseLast bufctl isLocked fifoHolder
   buffer-spares i m =
-      pick-keeps (Spares c n) (isLocked c m) (λ t. record { same-bufctl = refl; same-arming = refl; same-roles = refl; avoided = none })
+      pick-keeps (Spares c n) (isLocked c m)
+      (λ t. pick-keeps (Spares c n) (isFree c 0) (λ u. record { same-bufctl = refl; same-arming = refl; same-roles = refl; avoided = holds })
+      (λ u. pick-keeps (Spares c n) (isFree c 1) (λ x. record { same-bufctl = refl; same-arming = refl; same-roles = refl; avoided = holds })
+      (λ x. record { same-bufctl = refl; same-arming = refl; same-roles = refl; avoided = none })))
       (λ t. record { same-bufctl = flag-other _ _ _ _ (c .buffers .iflg) n m small (another m t); same-arming = refl; same-roles = refl; avoided = stores (another m t) })
 
-  fifo-spares : (i : ℕ) → c .mode .init ≡ false → Spares c n (toFifo (raiseLast c i) i)
-  unfolding toFifo raiseLast bufctl isLocked fifoHolder
+  fifo-spares : (i : ℕ) → c .mode .init ≡ false → Spares c n (toFifo (raiseLast (cancel c) i) i)
+  unfolding cancel toFifo raiseLast bufctl isLocked fifoHolder
   fifo-spares i o =
-      pick-keeps (Spares c n) (fifoTakes (raiseLast c i) i)
+      pick-keeps (Spares c n) (fifoTakes (raiseLast (cancel c) i) i)
       (λ t. pick-keeps (Spares c n) (leb (c .config .fsiz) (c .fifo .count)) (λ u. record { same-bufctl = refl; same-arming = refl; same-roles = refl; avoided = none })
       (λ u. record { same-bufctl = refl; same-arming = refl; same-roles = refl; avoided = stores (another (c .fifo .next) (free .next-free o (leb-false (c .config .fsiz) (c .fifo .count) u))) }))
       (λ t. record { same-bufctl = refl; same-arming = refl; same-roles = refl; avoided = none })
 
+  bad-spares : Spares c n (plain (raiseGisr (cancel c) ERRIF) BadFrame)
+  unfolding cancel bufctl isLocked fifoHolder
+  bad-spares = record { same-bufctl = refl; same-arming = refl; same-roles = refl; avoided = none }
+
   frame-spares : (hs : List Head) (good : Bool) (i : ℕ) → c .mode .init ≡ false → Spares c n (received c hs good i)
-  unfolding received judged found bufctl isLocked fifoHolder
+  unfolding received judged found
   frame-spares hs good i o =
       pick-keeps (Spares c n) (not (c .mode .synced)) (λ t. same Ignored)
-      (λ t. pick-keeps (Spares c n) (not good || eqb i 0) (λ u. record { same-bufctl = refl; same-arming = refl; same-roles = refl; avoided = none })
+      (λ t. pick-keeps (Spares c n) (not good || eqb i 0) (λ u. bad-spares)
       (λ u. counted-spares _ _ (pick-keeps (Spares c n) (ltb (lookup c hs i) 16) (λ x. buffer-spares i (lookup c hs i)) (λ x. fifo-spares i o))))
 
   -- what is sent is armed, so not locked, and another buffer

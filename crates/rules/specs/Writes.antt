@@ -14,8 +14,9 @@ use Rattle.rules.specs.declared.Buffers.{Buffers}
 use Rattle.rules.specs.declared.Fifo.{Fifo}
 use Rattle.rules.specs.declared.Control.{Control}
 use Rattle.rules.specs.Record.{withConfig, withEvents, withFifo, withReceive, withTransmit, withBuffers, withFsiz, withTcr1, withTcr2, withTcr3, withRier, withGier, withAccept, withReject, withBfen, withPattern, withMask, withCfg, withIena, withIflg, withAbtak, withArmed}
-use Rattle.rules.specs.Registers.{Region, sendPlace, receivePlace, fifoPlace, elsewhere, regionOf, has, RCVFIF, RXIF, SYNAIF, SYNNIF, SLMMIF, XSYNIF, LOCKIE, BFEN, CFG, IENA, IFLG, LOCK, ABTRQ}
+use Rattle.rules.specs.Registers.{Region, sendPlace, receivePlace, fifoPlace, controlOf, elsewhere, regionOf, has, RCVFIF, RXIF, SYNAIF, SYNNIF, SLMMIF, XSYNIF, LOCKIE, BFEN, CFG, IENA, IFLG, LOCK, ABTRQ}
 use Rattle.rules.specs.Kinds.{isTransmit, isReceive, isLocked, isFullTransmit, placeAfter}
+use Rattle.rules.specs.Waiting.{delivered, deliveries}
 use Rattle.rules.specs.Flags.{writeRisr, writeGisr}
 use Rattle.rules.specs.Modes.{enter, writeMcr}
 use Rattle.rules.specs.Plan.{Move, setIdent, setLength, setData}
@@ -57,9 +58,14 @@ unfoldable pub releaseFifo : Control → ℕ → Fifo
 releaseFifo c n = pick (c .fifo .locked && eqb n (c .fifo .oldest)) (withoutOldest c) (c .fifo)
 
 -- "Writing LOCK 0 releases": whichever lock buffer n has
-unfoldable pub unlock : Control → ℕ → Control
-unlock c n =
+unfoldable pub releaseAll : Control → ℕ → Control
+releaseAll c n =
     withFifo (withTransmit (withReceive c (releaseLock (c .receive) n)) (releaseLock (c .transmit) n)) (releaseFifo c n)
+
+-- W5: "When a buffer stops being locked, frames waiting for it are stored". For a buffer that isn't locked no frame waits
+-- (`unlocked-unwaited`).
+unfoldable pub unlock : Control → ℕ → Control
+unlock c n = releaseAll (delivered c n) n
 
 -- ---- a control write: "acts in this order: CFG (initialization only, otherwise ignored), IENA, IFLG, ABTRQ, LOCK"
 
@@ -139,10 +145,12 @@ unfoldable pub windowMoves : ℕ → ℕ → ℕ → List Move
 windowMoves n p v =
     pick (eqb p 0) (setIdent n v ∷ []) (pick (eqb p 1) (setLength n (v % 16) ∷ []) (setData n (p - 2) ∷ []))
 
+-- what a write moves: a byte of a window, or the frames that waited for a buffer whose LOCK is written 0
 abbrev pub movesIn : Control → Region → ℕ → List Move
 movesIn c (sendPlace p) v = windowMoves (c .transmit .holder) p v
 movesIn c (receivePlace p) v = windowMoves (c .receive .holder) p v
 movesIn c (fifoPlace p) v = []
+movesIn c (controlOf n) v = pick (has v LOCK) [] (deliveries c n)
 movesIn c elsewhere v = []
 
 unfoldable pub writeMoves : Control → Register → ℕ → List Move

@@ -63,6 +63,8 @@ pub enum Answer {
     Ignored,
     Woke,
     NotSent,
+    // the frame waits for the buffer, which is locked
+    Waiting(u8),
 }
 
 // $00, synchronization, and the largest identifier on the bus since the last sync.
@@ -72,7 +74,7 @@ pub struct Mode {
     pub init: bool,
     pub master: bool,
     pub alarm: bool,
-    pub slpak: bool,
+    // SLPAK is no field: it is SLPRQ while no frame waits
     pub slprq: bool,
     pub wpulse: bool,
     pub sswai: bool,
@@ -121,6 +123,15 @@ pub struct Buffers {
     pub armed: u16,
 }
 
+// The two waiting places: for which buffer the frame in each waits, 16 in a free one. Swapped: the frame in the second place came
+// before the one in the first.
+#[repr(C)]
+pub struct Places {
+    pub first: u8,
+    pub second: u8,
+    pub swapped: bool,
+}
+
 // The control state.
 #[repr(C)]
 pub struct Control {
@@ -130,14 +141,16 @@ pub struct Control {
     pub fifo: Fifo,
     pub receive: Locks,
     pub transmit: Locks,
+    pub places: Places,
     pub buffers: Buffers,
 }
 
-// What the rules make of a bus step: an answer alone, a frame to store in a buffer with its answer, or a buffer's frame to
-// send.
+// What the rules make of a bus step: an answer alone, a frame to store with its answer, or a buffer's frame to send. A frame is stored
+// in a buffer, or, where that number is 16, in a waiting place, which else is 2: one case for both, so that the code that stores a frame
+// stands once.
 pub enum Verdict {
     Say(Answer),
-    Store(u8, Answer),
+    Store(u8, u8, Answer),
     Send(u8),
 }
 

@@ -1,8 +1,9 @@
 // The write of a buffer's control register.
 ghost use mathlib.Core.Path.{_≡_};
-ghost use Rattle.rules.specs.Writes.{writeCfg, writeIena, clearIflg, writeIflg, abort, writeAbtrq, writeLock, writeBufctl};
+ghost use Rattle.writes.specs.CodeDelivery.{lockUndelivered, undelivered};
+ghost use Rattle.rules.specs.Writes.{writeCfg, writeIena, clearIflg, writeIflg, abort, writeAbtrq};
 use crate::locking::lock;
-use crate::locking::unlock;
+use crate::locking::release_all;
 use kinds::cfg_after;
 use kinds::is_full_transmit;
 use kinds::is_locked;
@@ -81,7 +82,7 @@ fn write_abtrq(c: Control, n: u8, v: u8) -> Control
 }
 
 fn write_lock(c: Control, n: u8, v: u8) -> Control
-    ensures { λ r. ⌜ r ≡ writeLock c n v ⌝ }
+    ensures { λ r. ⌜ r ≡ lockUndelivered c n v ⌝ }
 {
     if has(v, LOCK) {
         if is_locked(c, n) {
@@ -89,12 +90,12 @@ fn write_lock(c: Control, n: u8, v: u8) -> Control
         }
         return lock(c, n);
     }
-    unlock(c, n)
+    release_all(c, n)
 }
 
-// A write of buffer n's control register: CFG, IENA, IFLG, ABTRQ, LOCK, in this order.
+// A write of buffer n's control register: CFG, IENA, IFLG, ABTRQ, LOCK, in this order. Frames that wait for n are not delivered yet.
 pub(crate) fn write_bufctl(c: Control, n: u8, v: u8) -> Control
-    ensures { λ r. ⌜ r ≡ writeBufctl c n v ⌝ }
+    ensures { λ r. ⌜ r ≡ undelivered c n v ⌝ }
 {
     let cfg = write_cfg(c, n, v);
     let iena = write_iena(cfg, n, v);

@@ -5,8 +5,8 @@ mod locking;
 mod parts;
 
 ghost use mathlib.Core.Path.{_≡_};
-ghost use Rattle.rules.specs.declared.Register.the-variants.{Bufctl};
-ghost use Rattle.rules.specs.Writes.{writeGier, written};
+ghost use Rattle.rules.specs.Writes.{writeGier};
+ghost use Rattle.writes.specs.CodeDelivery.{undelivered};
 ghost use Rattle.writes.specs.Code.{writtenLow};
 use crate::bufctl::write_bufctl;
 use crate::events::write_gisr;
@@ -38,9 +38,10 @@ pub fn write_gier(init: bool, old: u8, v: u8) -> u8
     if init { v } else { v & !LOCKIE | old & LOCKIE }
 }
 
-// A write of buffer n's control register.
+// A write of buffer n's control register, but that no frame that waits for n is delivered. Few writes deliver one, and whoever carries
+// out the change does it: with the delivery here, the compiler carried the places through every write.
 pub fn written_control(c: Control, n: u8, v: u8) -> Control
-    ensures { λ r. ⌜ r ≡ written c (Bufctl n) v ⌝ }
+    ensures { λ r. ⌜ r ≡ undelivered c n v ⌝ }
 {
     write_bufctl(c, n, v)
 }

@@ -1,7 +1,7 @@
 // Locks taken and released.
 ghost use mathlib.Core.Path.{_≡_};
 ghost use Rattle.rules.specs.Record.{withFifo};
-ghost use Rattle.rules.specs.Writes.{entersByLock, lockError, disarm, lockFifo, lock, withoutOldest, releaseFifo, unlock};
+ghost use Rattle.rules.specs.Writes.{entersByLock, lockError, disarm, lockFifo, lock, withoutOldest, releaseFifo, releaseAll};
 use crate::parts::with_receive;
 use crate::parts::with_transmit;
 use kinds::is_receive;
@@ -93,8 +93,8 @@ fn release_fifo(c: Control, n: u8) -> Fifo
 }
 
 // Whichever lock buffer n has is released.
-pub(crate) fn unlock(c: Control, n: u8) -> Control
-    ensures { λ r. ⌜ r ≡ unlock c n ⌝ }
+pub(crate) fn release_all(c: Control, n: u8) -> Control
+    ensures { λ r. ⌜ r ≡ releaseAll c n ⌝ }
 {
     let rx = c.receive;
     let tx = c.transmit;

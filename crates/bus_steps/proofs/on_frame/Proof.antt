@@ -14,6 +14,9 @@ returns : tie.Need-returns
 unfolding onBus
 returns c = simp (pick-true, ← (c .ruling .ensures), c .before .if1 .taken)
 
+asleep-requires : tie.Need-asleep-requires
+asleep-requires c κs = search needs
+
 woken-requires : tie.Need-woken-requires
 woken-requires c κs = search needs
 
@@ -22,7 +25,7 @@ ruling-requires-2 c κs = search needs
 
 returns-2 : tie.Need-returns-2
 unfolding onBus
-returns-2 c = simp (pick-true, pick-false, ← (c .ruling2 .ensures), ← (c .before .woken .ensures), c .before .before .if2 .taken, c .before .before .before .if1 .left)
+returns-2 c = simp (pick-true, pick-false, ← (c .ruling2 .ensures), ← (c .before .woken .ensures), c .before .before .if2 .taken, ← (c .before .before .before .asleep .ensures), c .before .before .before .before .if1 .left)
 
 judged-requires : tie.Need-judged-requires
 judged-requires c κs = search needs
@@ -33,9 +36,9 @@ marked-requires c κs = search needs
 returns-3 : tie.Need-returns-3
 returns-3 c =
     let judged = c .before in
-    let a = judged .before .before .before .args in
+    let a = judged .before .before .before .before .args in
     simp (c .marked .ensures) (judged .judged .ensures)
-    ∙ ap rulingOf (sym (bus-awake (a .c) _ _ (judged .before .before .if1 .left) (judged .before .if2 .left)))
+    ∙ ap rulingOf (sym (bus-awake (a .c) _ _ (judged .before .before .before .if1 .left) (sym (judged .before .before .asleep .ensures) ∙ judged .before .if2 .left)))
 
 pub on-frame-spec : {M : Type 1} → statement M
 on-frame-spec =
@@ -43,6 +46,7 @@ on-frame-spec =
     (tie.spec
     ruling-requires
     returns
+    asleep-requires
     woken-requires
     ruling-requires-2
     returns-2

@@ -11,21 +11,24 @@ returns : tie.Need-returns
 unfolding onBus
 returns c = simp (pick-true, ← (c .ruling .ensures), c .before .if1 .taken)
 
+asleep-requires : tie.Need-asleep-requires
+asleep-requires c κs = search needs
+
 ruling-requires-2 : tie.Need-ruling-requires-2
 ruling-requires-2 c κs = search needs
 
 returns-2 : tie.Need-returns-2
 unfolding onBus
-returns-2 c = simp (pick-true, pick-false, ← (c .ruling2 .ensures), c .before .if2 .taken, c .before .before .if1 .left)
+returns-2 c = simp (pick-true, pick-false, ← (c .ruling2 .ensures), c .before .if2 .taken, ← (c .before .before .asleep .ensures), c .before .before .before .if1 .left)
 
 slot-for-requires : tie.Need-slot-for-requires
 slot-for-requires c κs = search needs
 
 returns-3 : tie.Need-returns-3
 unfolding onBus
-returns-3 c = simp (pick-false, ← (c .slot-for .ensures), c .before .if2 .left, c .before .before .if1 .left)
+returns-3 c = simp (pick-false, ← (c .slot-for .ensures), c .before .if2 .left, ← (c .before .before .asleep .ensures), c .before .before .before .if1 .left)
 
 pub on-slot-spec : {M : Type 1} → statement M
 on-slot-spec =
     tie.close
-    (tie.spec ruling-requires returns ruling-requires-2 returns-2 slot-for-requires returns-3)
+    (tie.spec ruling-requires returns asleep-requires ruling-requires-2 returns-2 slot-for-requires returns-3)

@@ -11,12 +11,15 @@ returns : tie.Need-returns
 unfolding onBus
 returns c = simp (pick-true, ← (c .ruling .ensures), c .before .if1 .taken)
 
+asleep-requires : tie.Need-asleep-requires
+asleep-requires c κs = search needs
+
 ruling-requires-2 : tie.Need-ruling-requires-2
 ruling-requires-2 c κs = search needs
 
 returns-2 : tie.Need-returns-2
 unfolding onBus
-returns-2 c = simp (pick-true, pick-false, ← (c .ruling2 .ensures), c .before .if2 .taken, c .before .before .if1 .left)
+returns-2 c = simp (pick-true, pick-false, ← (c .ruling2 .ensures), c .before .if2 .taken, ← (c .before .before .asleep .ensures), c .before .before .before .if1 .left)
 
 timed-out-requires : tie.Need-timed-out-requires
 timed-out-requires c κs = search needs
@@ -26,7 +29,7 @@ ruling-requires-3 c κs = search needs
 
 returns-3 : tie.Need-returns-3
 unfolding onBus
-returns-3 c = simp (pick-false, ← (c .ruling3 .ensures), ← (c .before .timed-out .ensures), c .before .before .if2 .left, c .before .before .before .if1 .left)
+returns-3 c = simp (pick-false, ← (c .ruling3 .ensures), ← (c .before .timed-out .ensures), c .before .before .if2 .left, ← (c .before .before .before .asleep .ensures), c .before .before .before .before .if1 .left)
 
 pub on-timeout-spec : {M : Type 1} → statement M
 on-timeout-spec =
@@ -34,6 +37,7 @@ on-timeout-spec =
     (tie.spec
     ruling-requires
     returns
+    asleep-requires
     ruling-requires-2
     returns-2
     timed-out-requires

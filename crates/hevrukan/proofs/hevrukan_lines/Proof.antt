@@ -137,7 +137,7 @@ module _ {M : Type 1} (𝓤 : URA M) (H : Heap 𝓤) (A : Atoms 𝓤) (W : Given
       Dies = ‵ (fdies (tyInt w32) l0) ∷ ‵ (fdies (tyRef (named 0) imm rec-ty) l1) ∷ ‵ (fdies (tyInt w64) l2) ∷ ‵ (fdies tyBool l3) ∷ ‵ (fdies byte l4) ∷ ‵ (fdies T′.mir l5) ∷ []
 
       -- the answer, wide
-      widened : {y3 y5 : Val} → Holds (not (not (eqb size 268))) → (n : ℕ) → n ≡ linesOf (h .control) → n < 2 ^ 8 → Sq W (‵ (flft κ q) ∷ ‵ (fres γ (T.the-row .coded .code h)) ∷ ‵ (fshr-bor κ (λ s. partAt T.the-row s h b o)) ∷ ‵ (froom (tyInt w32) l0 0) ∷ ‵ (fat fullShare (tyRef (named 0) imm rec-ty) l1 0 (vptr b o)) ∷ ‵ (fat fullShare (tyInt w64) l2 0 (vint w64 size)) ∷ ‵ (fat fullShare tyBool l3 0 y3) ∷ ‵ (fat fullShare byte l4 0 (vint w8 n)) ∷ ‵ (fat fullShare T′.mir l5 0 y5) ∷ Dies) (runs C Λ En pieces.t-5 (atRet En Post))
+      widened : {y3 y5 : Val} → Holds (not (not (eqb size 296))) → (n : ℕ) → n ≡ linesOf (h .control) → n < 2 ^ 8 → Sq W (‵ (flft κ q) ∷ ‵ (fres γ (T.the-row .coded .code h)) ∷ ‵ (fshr-bor κ (λ s. partAt T.the-row s h b o)) ∷ ‵ (froom (tyInt w32) l0 0) ∷ ‵ (fat fullShare (tyRef (named 0) imm rec-ty) l1 0 (vptr b o)) ∷ ‵ (fat fullShare (tyInt w64) l2 0 (vint w64 size)) ∷ ‵ (fat fullShare tyBool l3 0 y3) ∷ ‵ (fat fullShare byte l4 0 (vint w8 n)) ∷ ‵ (fat fullShare T′.mir l5 0 y5) ∷ Dies) (runs C Λ En pieces.t-5 (atRet En Post))
       widened t n said n-fits =
           use0 W (raw (Wide 𝓤 H A at-mem run .pre (to-wide n))) (asked-wide n n-fits) $
           calls-at ! fm (Wide 𝓤 H A at-mem run) known-wide (to-wide n) (and-then ! (load ! (from ! (stop !)) (look ! 8 refl)) (no-more !)) (λ v.
@@ -150,7 +150,7 @@ module _ {M : Type 1} (𝓤 : URA M) (H : Heap 𝓤) (A : Atoms 𝓤) (W : Given
           by ! (exits m (lines-right h size m n t said e) (is .1)))))))
 
       -- the five lines
-      lined : {y3 : Val} → Holds (not (not (eqb size 268))) → Is T.the-row h (mach h ∷ []) → Sq W (‵ (flft κ q) ∷ ‵ (fres γ (T.the-row .coded .code h)) ∷ ‵ (fshr-bor κ (λ s. partAt T.the-row s h b o)) ∷ ‵ (froom (tyInt w32) l0 0) ∷ ‵ (fat fullShare (tyRef (named 0) imm rec-ty) l1 0 (vptr b o)) ∷ ‵ (fat fullShare (tyInt w64) l2 0 (vint w64 size)) ∷ ‵ (fat fullShare tyBool l3 0 y3) ∷ ‵ (froom byte l4 0) ∷ ‵ (fat fullShare T′.mir l5 0 (mach h)) ∷ Dies) (runs C Λ En pieces.t-4 (atRet En Post))
+      lined : {y3 : Val} → Holds (not (not (eqb size 296))) → Is T.the-row h (mach h ∷ []) → Sq W (‵ (flft κ q) ∷ ‵ (fres γ (T.the-row .coded .code h)) ∷ ‵ (fshr-bor κ (λ s. partAt T.the-row s h b o)) ∷ ‵ (froom (tyInt w32) l0 0) ∷ ‵ (fat fullShare (tyRef (named 0) imm rec-ty) l1 0 (vptr b o)) ∷ ‵ (fat fullShare (tyInt w64) l2 0 (vint w64 size)) ∷ ‵ (fat fullShare tyBool l3 0 y3) ∷ ‵ (froom byte l4 0) ∷ ‵ (fat fullShare T′.mir l5 0 (mach h)) ∷ Dies) (runs C Λ En pieces.t-4 (atRet En Post))
       lined t was =
           use0 W (raw (Lines 𝓤 H A at-mem run .pre (to-lines))) (asked-lines was) $
           calls-at ! fm (Lines 𝓤 H A at-mem run) known-lines (to-lines) (and-then ! (load ! (from ! (stop !)) (look ! 9 refl)) (no-more !)) (λ v.
@@ -161,7 +161,7 @@ module _ {M : Type 1} (𝓤 : URA M) (H : Heap 𝓤) (A : Atoms 𝓤) (W : Given
           widened t n e (is .1))))))
 
       -- the right size: the record is copied out
-      read : {y3 : Val} → Holds (not (not (eqb size 268))) → Sq W (‵ Own-c ∷ ‵ (flft κ q) ∷ ‵ (froom (tyInt w32) l0 0) ∷ ‵ (fat fullShare (tyRef (named 0) imm rec-ty) l1 0 (vptr b o)) ∷ ‵ (fat fullShare (tyInt w64) l2 0 (vint w64 size)) ∷ ‵ (fat fullShare tyBool l3 0 y3) ∷ ‵ (froom byte l4 0) ∷ ‵ (froom T′.mir l5 0) ∷ Dies) (runs C Λ En pieces.t-3 (atRet En Post))
+      read : {y3 : Val} → Holds (not (not (eqb size 296))) → Sq W (‵ Own-c ∷ ‵ (flft κ q) ∷ ‵ (froom (tyInt w32) l0 0) ∷ ‵ (fat fullShare (tyRef (named 0) imm rec-ty) l1 0 (vptr b o)) ∷ ‵ (fat fullShare (tyInt w64) l2 0 (vint w64 size)) ∷ ‵ (fat fullShare tyBool l3 0 y3) ∷ ‵ (froom byte l4 0) ∷ ‵ (froom T′.mir l5 0) ∷ Dies) (runs C Λ En pieces.t-3 (atRet En Post))
       read t =
           fsplit3 ! $ drop ! $ move ! (1 ∷ 2 ∷ []) $
           looks ! tt T.the-row (Is T.the-row) (shows 𝓤 H A T.the-row) (LL.vals T.the-type T′.the-laws) (LL.tells T.the-type T′.the-laws) (LL.copy T.the-type T′.the-copy 𝓤 H A W) h b o (λ q′ vs.

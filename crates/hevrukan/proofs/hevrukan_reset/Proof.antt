@@ -139,7 +139,7 @@ module _ {M : Type 1} (𝓤 : URA M) (H : Heap 𝓤) (A : Atoms 𝓤) (W : Given
           by ! (exits c _ said (lit< tt)))
 
       -- the right size: the record as after reset
-      wiped : {y3 : Val} → Holds (not (not (eqb size 268))) → Sq W (‵ Own-c ∷ ‵ (flft κ q) ∷ ‵ (froom (tyInt w32) l0 0) ∷ ‵ (fat fullShare (tyRef (named 0) mut rec-ty) l1 0 (vptr b o)) ∷ ‵ (fat fullShare (tyInt w64) l2 0 (vint w64 size)) ∷ ‵ (fat fullShare tyBool l3 0 y3) ∷ ‵ (froom T′.mir l4 0) ∷ Dies) (runs C Λ En pieces.t-3 (atRet En Post))
+      wiped : {y3 : Val} → Holds (not (not (eqb size 296))) → Sq W (‵ Own-c ∷ ‵ (flft κ q) ∷ ‵ (froom (tyInt w32) l0 0) ∷ ‵ (fat fullShare (tyRef (named 0) mut rec-ty) l1 0 (vptr b o)) ∷ ‵ (fat fullShare (tyInt w64) l2 0 (vint w64 size)) ∷ ‵ (fat fullShare tyBool l3 0 y3) ∷ ‵ (froom T′.mir l4 0) ∷ Dies) (runs C Λ En pieces.t-3 (atRet En Post))
       wiped t =
           use0 W (raw (Fresh 𝓤 H A at-mem run .pre (to-fresh))) (asked-fresh) $
           calls-at ! fm (Fresh 𝓤 H A at-mem run) known-fresh (to-fresh) (no-more !) (λ v.

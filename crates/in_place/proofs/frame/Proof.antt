@@ -99,7 +99,7 @@ Carries 𝓤 H A mem run = tripleOf 𝓤 H A carries.signature (carries.spec �
 
 -- the type of `Change`, with its fields' types by name, so that a field's type is found with nothing computed
 abbrev out-ty : Ty
-out-ty = tyStruct (S.struct .name) (tcons Control-row′.mir (tcons (tyInt w8) (tcons (tyArray (tyInt w8) 14) (tcons Answered-row′.mir tnil))))
+out-ty = tyStruct (S.struct .name) (tcons Control-row′.mir (tcons (tyInt w8) (tcons (tyInt w8) (tcons (tyArray (tyInt w8) 14) (tcons Answered-row′.mir tnil)))))
 
 abbrev rec-ty : Ty
 rec-ty = pointee (T.the-row .written)

@@ -12,8 +12,8 @@ returns : tie.Need-returns
 unfolding leave
 returns c =
     let b = c .before .before .before .before .args .c .buffers in
-    -- the buffers are the seventh part of the control state
-    let fits = c .before .struct-known .given .1 .1 .1 .1 .1 .1 .0 in
+    -- the buffers are the eighth part of the control state
+    let fits = c .before .struct-known .given .1 .1 .1 .1 .1 .1 .1 .0 in
     let cfg = own (b .cfg) (fits .0 .fits) in
     let iflg = own (b .iflg) (fits .1 .1 .0 .fits) in
     simp (← (c .before .before .left-mode .ensures), ← (or-by (b .cfg) (b .iflg) (bitOf (b .cfg)) (bitOf (b .iflg)) cfg iflg))

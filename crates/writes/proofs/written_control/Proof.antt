@@ -1,5 +1,4 @@
 use borrow.Author.Needs.{needs}
-use Rattle.rules.specs.Writes.{written}
 use Rattle.writes.proofs.written_control.Statement.{statement}
 use Rattle.writes.proofs.written_control.Tie as tie
 
@@ -7,7 +6,6 @@ write-bufctl-requires : tie.Need-write-bufctl-requires
 write-bufctl-requires c κs = search needs
 
 returns : tie.Need-returns
-unfolding written
 returns c = search needs
 
 pub written-control-spec : {M : Type 1} → statement M

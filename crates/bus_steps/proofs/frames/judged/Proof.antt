@@ -1,9 +1,9 @@
 use mathlib.Core.Logic.{⊎-elim}
-use mathlib.Core.Path.{ap, _∙_}
+use mathlib.Core.Path.{_∙_}
 use borrow.Author.Tests.{lt-ltb, le-ltb}
 use Rattle.masks.specs.PickLaws.{pick-true, pick-false}
 use Rattle.rules.specs.Bus.{found, judged}
-use Rattle.bus_steps.specs.CodeMarks.{ignored, ruledBy, ignored-ruled, bad-ruled}
+use Rattle.bus_steps.specs.CodeMarks.{ignored-ruled, bad-ruled}
 use borrow.Author.Needs.{needs}
 use Rattle.bus_steps.proofs.frames.judged.Statement.{statement}
 use Rattle.bus_steps.proofs.frames.judged.Tie as tie
@@ -14,10 +14,10 @@ unmarked-requires c κs = search needs
 returns : tie.Need-returns
 unfolding judged
 returns c =
-    let a = c .before .before .before .args in
-    ap (ruledBy (a .c) (a .i)) {y = ignored} (c .unmarked .ensures)
-    ∙ ignored-ruled (a .c) (a .i)
-    ∙ simp (pick-true, c .before .if1 .taken)
+    let a = c .before .before .before .before .args in
+    simp (c .unmarked .ensures)
+    (ignored-ruled (a .c) (a .i)
+    ∙ simp (pick-true, c .before .if1 .taken))
 
 unmarked-requires-2 : tie.Need-unmarked-requires-2
 unmarked-requires-2 c κs = search needs
@@ -25,7 +25,7 @@ unmarked-requires-2 c κs = search needs
 returns-2 : tie.Need-returns-2
 unfolding judged
 returns-2 c =
-    let a = c .before .before .before .before .args in
+    let a = c .before .before .before .before .before .args in
     simp (c .unmarked2 .ensures)
     (bad-ruled (a .c) (a .i)
     ∙ ⊎-elim
@@ -39,7 +39,7 @@ to-buffer-requires c κs = search needs
 returns-3 : tie.Need-returns-3
 unfolding judged found
 returns-3 c =
-    let a = c .before .before .before .before .before .before .args in
+    let a = c .before .before .before .before .before .before .before .args in
     c .to-buffer .ensures (a .i)
     ∙ simp (pick-true, pick-false, lt-ltb _ _ (c .before .if4 .taken), c .before .before .if3 .left, c .before .before .before .if2 .left, c .before .before .before .before .if1 .left)
 

@@ -12,7 +12,7 @@ entered-requires c κs = search needs
 returns : tie.Need-returns
 unfolding marked
 returns c =
-    let at = c .before .before .before in
+    let at = c .before .before .before .before .before in
     simp (← (at .entered .ensures), ← (at .before .before .before .before .before .risen .ensures))
 
 pub marked-spec : {M : Type 1} → statement M

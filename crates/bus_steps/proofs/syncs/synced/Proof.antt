@@ -11,7 +11,7 @@ arming-requires c κs = search needs
 
 returns : tie.Need-returns
 unfolding syncedOf
-returns c = simp (← (c .before .before .before .arming .ensures), ← (c .before .before .before .before .sync-events .ensures))
+returns c = simp (← (c .before .before .before .before .arming .ensures), ← (c .before .before .before .before .before .sync-events .ensures))
 
 pub synced-spec : {M : Type 1} → statement M
 synced-spec = tie.close (tie.spec sync-events-requires arming-requires returns)

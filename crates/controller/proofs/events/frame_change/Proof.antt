@@ -2,7 +2,7 @@ use mathlib.Core.Path.{ap, ap₂, _∙_}
 use mathlib.Core.List.{List}
 use borrow.Author.Needs.{needs}
 use Rattle.controller.specs.declared.Answered.{Answered}
-use Rattle.controller.specs.Code.{countedBy, saying, placing, frameChange}
+use Rattle.controller.specs.Code.{countedBy, saying, storing, frameChange}
 use Rattle.controller.proofs.events.frame_change.Statement.{statement}
 use Rattle.controller.proofs.events.frame_change.Tie as tie
 
@@ -48,7 +48,7 @@ returns-2 c =
     let d = counted .before .before .before .before .args .r .next in
     let told = c .before .before .before .verdict .given in
     let answered = counted .counted .ensures ∙ ap (countedBy d) (counted .before .answer-of .ensures) in
-    rw (told .1) (rw (told .1) at (c .with-counted-bytes .ensures ∙ ap₂ (placing d (told .0 .0)) (c .before .store-frame .ensures) answered))
+    rw (told .1) (rw (told .1) at (c .with-counted-bytes .ensures ∙ ap₂ (storing d (told .0 .0) (told .0 .1 .0)) (c .before .store-frame .ensures) answered))
 
 returns-3 : tie.Need-returns-3
 unfolding frameChange

@@ -9,8 +9,8 @@ use Rattle.rules.specs.declared.Control.{Control}
 use Rattle.rules.specs.declared.Register.{Register}
 use Rattle.rules.specs.Refusals.{writeRefusal}
 use Rattle.writes.specs.Code.{writtenLow, low-written}
-use Rattle.controller.specs.Code.{unlooked, saying, registerChange, writeChange}
-use Rattle.controller.proofs.RegisterLaws.{control-written}
+use Rattle.controller.specs.Code.{unlooked, saying, lowChange, writeChange}
+use Rattle.controller.proofs.RegisterLaws.{control-written, low-register}
 use Rattle.controller.proofs.registers.write_change.Statement.{statement}
 use Rattle.controller.proofs.registers.write_change.Tie as tie
 
@@ -54,7 +54,8 @@ returns-3 c =
     let r = c .before .before .register-at in
     let low = ap (λ (k : Register). writtenLow (a .c) k (a .v)) (r .ensures) ∙ low-written (a .c) (a .a) (a .v) (c .before .before .before .before .before .if1 .left) in
     rw (c .write-rows .ensures)
-    (ap₂ (λ (d : Control) (k : Register). registerChange (a .c) d k (a .v) (a .row)) (c .before .written-low .ensures ∙ low) (r .ensures)
+    (ap₂ (λ (d : Control) (k : Register). lowChange (a .c) d k (a .v) (a .row)) (c .before .written-low .ensures ∙ low) (r .ensures)
+    ∙ low-register (a .c) _ (a .a) (a .v) (a .row) (c .before .before .before .before .before .if1 .left)
     ∙ sym (pick-true (eqb (writeRefusal (a .c) (a .a) (a .v)) 0) _ _ (eq-eqb _ 0 (sym (c .before .before .before .before .write-refusal .ensures) ∙ c .before .before .before .if2 .left))))
 
 pub write-change-spec : {M : Type 1} → statement M

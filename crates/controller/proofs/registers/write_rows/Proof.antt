@@ -1,6 +1,6 @@
 use mathlib.Core.Path.{_∙_}
 use borrow.Author.Needs.{needs}
-use Rattle.controller.specs.Code.{registerChange}
+use Rattle.controller.specs.Code.{lowChange}
 use Rattle.controller.proofs.RegisterLaws.{other-change}
 use Rattle.controller.proofs.registers.write_rows.Statement.{statement}
 use Rattle.controller.proofs.registers.write_rows.Tie as tie
@@ -21,11 +21,11 @@ with-answer-requires : tie.Need-with-answer-requires
 with-answer-requires c κs = search needs
 
 returns : tie.Need-returns
-unfolding registerChange
+unfolding lowChange
 returns c = rw (c .before .before .register .given .1) (c .write-window .ensures)
 
 returns-2 : tie.Need-returns-2
-unfolding registerChange
+unfolding lowChange
 returns-2 c = rw (c .before .before .register2 .given .1) (c .write-window2 .ensures)
 
 returns-3 : tie.Need-returns-3

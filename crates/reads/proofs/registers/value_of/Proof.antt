@@ -10,6 +10,7 @@ value-of-spec =
     (tie.spec
     (λ c. search needs)
     (λ c κs. search needs)
+    (λ c κs. search needs)
     (λ c. search needs)
     (λ c. search needs)
     (λ c. search needs)
@@ -39,7 +40,7 @@ value-of-spec =
     (λ c. search needs)
     (λ c κs. search needs)
     (λ c. search needs)
-    (λ c. rw (c .before .before .enum-told .given .1) (c .mcr .ensures))
+    (λ c. rw (c .before .before .before .enum-told .given .1, ← (c .before .asleep .ensures)) (c .mcr .ensures))
     (λ c. rw (c .enum-told2 .given .1))
     (λ c. rw (c .enum-told3 .given .1))
     (λ c. rw (c .enum-told4 .given .1))

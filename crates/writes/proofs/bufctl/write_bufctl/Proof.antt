@@ -1,5 +1,5 @@
 use borrow.Author.Needs.{needs}
-use Rattle.rules.specs.Writes.{writeBufctl}
+use Rattle.writes.specs.CodeDelivery.{undelivered}
 use Rattle.writes.proofs.bufctl.write_bufctl.Statement.{statement}
 use Rattle.writes.proofs.bufctl.write_bufctl.Tie as tie
 
@@ -19,7 +19,7 @@ write-lock-requires : tie.Need-write-lock-requires
 write-lock-requires c κs = search needs
 
 returns : tie.Need-returns
-unfolding writeBufctl
+unfolding undelivered
 returns c =
     simp (
       ← (c .write-lock .ensures),

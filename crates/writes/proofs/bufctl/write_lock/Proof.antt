@@ -1,6 +1,6 @@
 use borrow.Author.Needs.{needs}
 use Rattle.masks.specs.PickLaws.{pick-true, pick-false}
-use Rattle.rules.specs.Writes.{writeLock}
+use Rattle.writes.specs.CodeDelivery.{lockUndelivered}
 use Rattle.writes.proofs.bufctl.write_lock.Statement.{statement}
 use Rattle.writes.proofs.bufctl.write_lock.Tie as tie
 
@@ -11,7 +11,7 @@ is-locked-requires : tie.Need-is-locked-requires
 is-locked-requires c κs = search needs
 
 returns : tie.Need-returns
-unfolding writeLock
+unfolding lockUndelivered
 returns c =
     simp
     (pick-true, c .if2 .taken, ← (c .before .is-locked .ensures), c .before .before .if1 .taken, ← (c .before .before .before .has .ensures))
@@ -20,7 +20,7 @@ lock-requires : tie.Need-lock-requires
 lock-requires c κs = search needs
 
 returns-2 : tie.Need-returns-2
-unfolding writeLock
+unfolding lockUndelivered
 returns-2 c =
     simp (
       pick-true,
@@ -32,14 +32,14 @@ returns-2 c =
       ← (c .before .before .before .before .has .ensures),
     )
 
-unlock-requires : tie.Need-unlock-requires
-unlock-requires c κs = search needs
+release-all-requires : tie.Need-release-all-requires
+release-all-requires c κs = search needs
 
 returns-3 : tie.Need-returns-3
-unfolding writeLock
-returns-3 c = simp (pick-false, ← (c .unlock .ensures), c .before .if1 .left, ← (c .before .before .has .ensures))
+unfolding lockUndelivered
+returns-3 c = simp (pick-false, ← (c .release-all .ensures), c .before .if1 .left, ← (c .before .before .has .ensures))
 
 pub write-lock-spec : {M : Type 1} → statement M
 write-lock-spec =
     tie.close
-    (tie.spec has-requires is-locked-requires returns lock-requires returns-2 unlock-requires returns-3)
+    (tie.spec has-requires is-locked-requires returns lock-requires returns-2 release-all-requires returns-3)

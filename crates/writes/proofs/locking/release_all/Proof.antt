@@ -1,7 +1,7 @@
 use borrow.Author.Needs.{needs}
-use Rattle.rules.specs.Writes.{unlock}
-use Rattle.writes.proofs.locking.unlock.Statement.{statement}
-use Rattle.writes.proofs.locking.unlock.Tie as tie
+use Rattle.rules.specs.Writes.{releaseAll}
+use Rattle.writes.proofs.locking.release_all.Statement.{statement}
+use Rattle.writes.proofs.locking.release_all.Tie as tie
 
 release-fifo-requires : tie.Need-release-fifo-requires
 release-fifo-requires c κs = search needs
@@ -22,7 +22,7 @@ with-fifo-requires : tie.Need-with-fifo-requires
 with-fifo-requires c κs = search needs
 
 returns : tie.Need-returns
-unfolding unlock
+unfolding releaseAll
 returns c =
     simp (
       c .with-fifo .ensures,
@@ -33,8 +33,8 @@ returns c =
       c .before .before .before .before .before .release-fifo .ensures,
     )
 
-pub unlock-spec : {M : Type 1} → statement M
-unlock-spec =
+pub release-all-spec : {M : Type 1} → statement M
+release-all-spec =
     tie.close
     (tie.spec
     release-fifo-requires
