@@ -1,24 +1,21 @@
--- The entries of alike sessions.
+-- Towards proofs/AlikeLaws.antt: entries woven of lines and reports, and the steps of alike lines.
 use Rattle.std.specs.Prelude.{ℕ, ◌≡◌, refl, List, [], ◌∷◌, map}
-use Rattle.std.proofs.Common.{sym, ap, ap₂, ◌∙◌}
+use Rattle.std.proofs.Common.{sym, ap, ◌∙◌}
 use Rattle.std.proofs.Math.Option.{Option, none, some}
-use Rattle.rules.specs.Flags.{lines_of as irq_of}
 use Rattle.rules.specs.Steps.{Step, hide}
-use Rattle.controller.specs.Carry.{reset_state}
-use Rattle.controller.specs.Session.{Report, run_of, seen, seen_all, Alike}
-use Rattle.controller.specs.Demand3.{payload-never-steers}
+use Rattle.controller.specs.Session.{Report, seen, seen_all, Alike}
 use Rattle.pieces.specs.Lines.{Line}
-use Rattle.blanked.specs.Entries.{step_at, steps_at, only_steps, Entry, stepped, unread, weave, entries_from}
+use Rattle.blanked.specs.Entries.{step_at, steps_at, only_steps, Entry, stepped, unread, weave}
 use Rattle.blanked.specs.Alike.{hide_step, Public, public_of, seen_beside}
 
-seen-weave : (irq : ℕ) (os : List (Option Step)) (rs : List Report) → seen_beside os (weave irq os rs) ≡ weave irq os (seen_all (only_steps os) rs)
+pub seen-weave : (irq : ℕ) (os : List (Option Step)) (rs : List Report) → seen_beside os (weave irq os rs) ≡ weave irq os (seen_all (only_steps os) rs)
 seen-weave irq [] rs = refl
 seen-weave irq (none ∷ os) rs = ap (λ (xs : List Entry). unread irq ∷ xs) (seen-weave irq os rs)
 seen-weave irq (some e ∷ os) [] = refl
 seen-weave irq (some e ∷ os) (r ∷ rs) = ap (λ (xs : List Entry). stepped (seen e r) ∷ xs) (seen-weave r.lines os rs)
 
 -- which line is a step, and not which step it is, decides where an entry stands
-weave-hide : (irq : ℕ) (os : List (Option Step)) (rs : List Report) → weave irq os rs ≡ weave irq (map hide_step os) rs
+pub weave-hide : (irq : ℕ) (os : List (Option Step)) (rs : List Report) → weave irq os rs ≡ weave irq (map hide_step os) rs
 weave-hide irq [] rs = refl
 weave-hide irq (none ∷ os) rs = ap (λ (xs : List Entry). unread irq ∷ xs) (weave-hide irq os rs)
 weave-hide irq (some e ∷ os) [] = refl
@@ -29,22 +26,8 @@ steps-hide [] = refl
 steps-hide (none ∷ os) = steps-hide os
 steps-hide (some e ∷ os) = ap (λ (es : List Step). hide e ∷ es) (steps-hide os)
 
-alike-steps : (os us : List (Option Step)) → map hide_step os ≡ map hide_step us → Alike (only_steps os) (only_steps us)
+pub alike-steps : (os us : List (Option Step)) → map hide_step os ≡ map hide_step us → Alike (only_steps os) (only_steps us)
 alike-steps os us h = sym (steps-hide os) ∙ ap only_steps h ∙ steps-hide us
-
-seen-entries : (os : List (Option Step)) →
-    seen_beside os (entries_from reset_state os)
-    ≡ weave (irq_of reset_state.control) (map hide_step os) (seen_all (only_steps os) (run_of reset_state (only_steps os)))
-seen-entries os =
-    seen-weave (irq_of reset_state.control) os (run_of reset_state (only_steps os))
-    ∙ weave-hide (irq_of reset_state.control) os (seen_all (only_steps os) (run_of reset_state (only_steps os)))
-
-pub alike-entries : (os us : List (Option Step)) → map hide_step os ≡ map hide_step us →
-    seen_beside os (entries_from reset_state os) ≡ seen_beside us (entries_from reset_state us)
-alike-entries os us h =
-    seen-entries os
-    ∙ ap₂ (weave (irq_of reset_state.control)) h (payload-never-steers (only_steps os) (only_steps us) (alike-steps os us h))
-    ∙ sym (seen-entries us)
 
 pub public-steps : (ls : List Line) → map hide_step (steps_at ls) ≡ map (λ (p : Public). p.step) (map public_of ls)
 public-steps [] = refl

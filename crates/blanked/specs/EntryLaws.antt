@@ -1,7 +1,7 @@
--- The rows of a replay, line by line, and the number of its entries.
+-- The row of a line, and the number of a replay's entries. The rows of all lines are in proofs/EntryLaws.antt.
 use Rattle.std.specs.Prelude.{ℕ, suc, ◌+◌, ◌≡◌, List, [], ◌∷◌, ◌++◌, length}
 use Rattle.std.proofs.Math.Path.{refl}
-use Rattle.std.proofs.Common.{ap, ◌∙◌, arith}
+use Rattle.std.proofs.Common.{ap, arith}
 use Rattle.std.proofs.Math.Option.{Option, none, some}
 use Rattle.rules.specs.Flags.{lines_of as irq_of}
 use Rattle.rules.specs.Steps.{Step}
@@ -10,35 +10,26 @@ use Rattle.lines.specs.declared.FrameBytes.{FrameBytes}
 use Rattle.controller.specs.Session.{Report, report_of, step_of, run_by, run_of}
 use Rattle.lines.specs.declared.Line.{Line as Reading}
 use Rattle.lines.specs.declared.Line.TheVariants.{Means, Unread}
-use Rattle.lines.specs.Grammar.{line_of}
 use Rattle.pieces.specs.Lines.{Line}
-use Rattle.pieces.specs.Feed.{run_from}
 use Rattle.replaying.specs.declared.Player.{Player}
-use Rattle.replaying.specs.Replay.{step_in, played_by, step_row, row_by, play, show_row}
-use Rattle.blanked.specs.Entries.{step_beside, read_step, steps_at, only_steps, weave, entries_from, entry_row, rows_from}
+use Rattle.replaying.specs.Replay.{step_in, played_by, step_row, row_by}
+use Rattle.blanked.specs.Entries.{step_beside, steps_at, only_steps, weave, entries_from, entry_row, rows_from}
 
 abbrev pub steps_of : List Line → List Step
 steps_of ls = only_steps (steps_at ls)
 
--- ---- the replay is the rows of the entries
+-- ---- a row
 
 pub run-cons : (c : Controller) (e : Step) (es : List Step) → run_of c (e ∷ es) ≡ report_of irq_of (step_of c e) ∷ run_of (step_of c e).next es
 unfolding run_of run_by step_of
 run-cons c e es = refl
 
 -- the row of a line, and the rows of those behind it
-row-entry : (p : Player) (n : ℕ) (k : Reading) (f : FrameBytes) (os : List (Option Step)) →
+pub row-entry : (p : Player) (n : ℕ) (k : Reading) (f : FrameBytes) (os : List (Option Step)) →
     row_by p n k f ++ rows_from (n + 1) (entries_from (played_by p k f).controller os) ≡ rows_from n (entries_from p.controller (step_beside k f ∷ os))
 unfolding row_by played_by step_beside rows_from entry_row step_row
 row-entry p n (Means call) f os = rw (run-cons p.controller (step_in call f) (only_steps os))
 row-entry p n Unread f os = refl
-
-pub replay-rows : (p : Player) (n : ℕ) (ls : List Line) → run_from play show_row p n ls ≡ rows_from n (entries_from p.controller (steps_at ls))
-unfolding run_from play show_row read_step
-replay-rows p n [] = unfold rows_from in refl
-replay-rows p n (l ∷ ls) =
-    ap (λ (x : List ℕ). row_by p n (line_of l.text).line (line_of l.text).frame ++ x) (replay-rows (play p n l.text) (n + 1) ls)
-    ∙ row-entry p n (line_of l.text).line (line_of l.text).frame (steps_at ls)
 
 -- ---- an entry for each line
 

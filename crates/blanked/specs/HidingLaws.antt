@@ -1,4 +1,4 @@
--- A blanked line is the line of its step with the payload put to 0, so that it is read as that step.
+-- Towards proofs/HidingLaws.antt: zeros as digits, the line of a step with its payload put to 0, and how that is read.
 use Rattle.std.specs.Prelude.{ℕ, ◌≤◌, ◌≡◌, Bool, List, [], ◌∷◌, ◌++◌, length, replicate}
 use Rattle.std.proofs.Math.Path.{refl}
 use Rattle.std.proofs.Common.{sym, ap, ◌∙◌, arith}
@@ -12,15 +12,12 @@ use Rattle.rules.specs.HiddenLaws.{hide-again}
 use Rattle.controller.specs.declared.Call.{Call}
 use Rattle.controller.specs.declared.Call.TheVariants.{Reset, Read, Write, Sync, SyncDue, Slot, Frame, Fault, Timeout}
 use Rattle.lines.specs.declared.FrameBytes.{FrameBytes}
-use Rattle.lines.specs.declared.Line.{Line as Reading}
-use Rattle.lines.specs.declared.Line.TheVariants.{Means, Unread}
-use Rattle.lines.specs.Grammar.{bytes_in, line_of}
+use Rattle.lines.specs.Grammar.{bytes_in}
 use Rattle.report.specs.Text.{digit_of, hex_of, hexes_of, unread_text}
 use Rattle.replaying.specs.Replay.{step_in}
-use Rattle.blanked.specs.Blank.{zero_from, blank_call, blank_by, blank_line}
-use Rattle.blanked.specs.Entries.{step_beside, read_step}
+use Rattle.blanked.specs.Blank.{zero_from, blank_call}
+use Rattle.blanked.specs.Entries.{read_step}
 use Rattle.blanked.specs.StepTextLaws.{verdict_byte, step_text, Bytes, Fits, Says}
-use Rattle.blanked.specs.FrameTextLaws.{line-says}
 use Rattle.blanked.specs.TextReadLaws.{text-read, unread-read}
 use Rattle.blanked.specs.Alike.{hide_step}
 
@@ -58,7 +55,7 @@ write-blank a v =
     (λ d. pick_true (data_register a) _ _ d ∙ write-zeroed a v ∙ ap (λ (x : ℕ). step_text (write a x)) (sym (pick_true (data_register a) 0 v d)))
     (λ d. pick-false (data_register a) _ _ d ∙ ap (λ (x : ℕ). step_text (write a x)) (sym (pick-false (data_register a) 0 v d)))
 
-call-blank : (call : Call) (f : FrameBytes) → blank_call call (step_text (step_in call f)) ≡ step_text (hide (step_in call f))
+pub call-blank : (call : Call) (f : FrameBytes) → blank_call call (step_text (step_in call f)) ≡ step_text (hide (step_in call f))
 unfolding blank_call step_in
 call-blank Reset f = refl
 call-blank (Read a) f = refl
@@ -69,16 +66,6 @@ call-blank (Slot i) f = unfold step_text in refl
 call-blank (Frame good) f = frame-zeroed good (bytes_in f)
 call-blank (Fault k) f = refl
 call-blank Timeout f = refl
-
-blank-by : (k : Reading) (f : FrameBytes) (s : List ℕ) → Says s (step_beside k f) → blank_by k s ≡ line_text (hide_step (step_beside k f))
-unfolding blank_by step_beside
-blank-by (Means call) f s h = ap (blank_call call) h.0 ∙ call-blank call f
-blank-by Unread f s h = refl
-
--- a blanked line, from what is public of the line alone
-pub blank-text : (s : List ℕ) → blank_line s ≡ line_text (hide_step (read_step s))
-unfolding blank_line read_step
-blank-text s = blank-by (line_of s).line (line_of s).frame s (line-says s)
 
 -- ---- a blanked line, read
 
@@ -102,9 +89,6 @@ fits-hide (frame good f) h = (bytes-hide f h.0, (let e = hide-size f in omega ar
 fits-hide (fault k) h = h
 fits-hide timeout h = h
 
-hidden-read : (s : List ℕ) (o : Option Step) → Says s o → read_step (line_text (hide_step o)) ≡ hide_step o
+pub hidden-read : (s : List ℕ) (o : Option Step) → Says s o → read_step (line_text (hide_step o)) ≡ hide_step o
 hidden-read s none h = unread-read
 hidden-read s (some e) h = text-read (hide e) (fits-hide e h.1)
-
-pub blank-read : (s : List ℕ) → read_step (blank_line s) ≡ hide_step (read_step s)
-blank-read s = ap read_step (blank-text s) ∙ hidden-read s (read_step s) (line-says s)

@@ -2,9 +2,6 @@
 pub mod Blank
 pub mod Entries
 pub mod Alike
--- final statements
-pub mod Reports
-pub mod Blanked
 -- nothing to believe: laws, and the code's own definitions
 pub mod EntryLaws
 pub mod AlikeLaws

@@ -1,7 +1,5 @@
 -- definitions
 pub mod Session
--- final statements
-pub mod Runs
 -- nothing to believe: laws, and the code's own definitions
 pub mod WholeLaws
 pub mod RunLaws

@@ -17,7 +17,7 @@ use Rattle.rules.specs.declared.Verdict.TheVariants.{Say, Store}
 use Rattle.rules.specs.declared.Fifo.{Fifo}
 use Rattle.rules.specs.declared.Places.{Places}
 use Rattle.rules.specs.declared.Control.{Control}
-use Rattle.rules.specs.Record.{with_mode, with_events, with_fifo, with_places, with_buffers, with_slprq, with_last, with_gisr, with_iflg}
+use Rattle.rules.specs.Record.{with_fifo, with_buffers, with_slprq, with_last, with_gisr, with_iflg}
 use Rattle.rules.specs.Registers.{OVRNIF, ERRIF}
 use Rattle.rules.specs.Kinds.{is_locked}
 use Rattle.rules.specs.Waiting.{occupied}

@@ -80,6 +80,7 @@ fn lost(c: Control) -> Control
     next
 }
 
+#[tactic(auto, unfolding(rules::specs::Bus::faulted))]
 pub(crate) fn faulted(c: Control, k: Fault) -> Control
     ensures { result ≡ faulted k c }
 {

@@ -14,7 +14,7 @@ use rules::{Answer, Control, Fifo, Places, Verdict};
 use waiting::{in_first, in_second};
 
 // What becomes of a frame: the verdict on it, and its marks in the control state.
-#[derive(Drop)]
+#[derive(Clone, Copy)]
 pub(crate) struct Outcome {
     pub(crate) verdict: Verdict,
     // SLPRQ after it
@@ -56,6 +56,7 @@ fn raising(p: Places, verdict: Verdict) -> Outcome
 }
 
 // The FIFO takes identifier i: FSIZ is not 0, the acceptance filter matches it and the rejection filter doesn't reject it.
+#[tactic(auto, unfolding(rules::specs::Bus::fifo_takes))]
 fn fifo_takes(c: Control, i: u8) -> bool
     ensures { result ≡ fifo_takes c i }
 {

@@ -1,4 +1,6 @@
 // Bus steps on the control state.
+#![tactic(auto)]
+
 mod events;
 mod frames;
 mod slots;

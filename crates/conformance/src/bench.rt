@@ -1,19 +1,19 @@
 // The bench. A line of the input is a session's heading (#), a step as the replay text writes it, with spaces for tabs, or a remark
 // (/); or it says how large a slot's room is from now on (room).
 use controller::{Call, Controller, Done};
-use libc::STDOUT_FILENO;
 use lines::{FrameBytes, Line, Parsed};
 use pieces::Held;
 use rules::Answer;
+use std::io;
 
-#[derive(Drop)]
+#[derive(Clone, Copy)]
 struct Session {
     controller: Controller,
     room: u8,
 }
 
 // A session, and the line that has not ended yet.
-#[derive(Drop)]
+#[derive(Clone, Copy)]
 pub struct Bench {
     session: Session,
     held: Held,
@@ -35,31 +35,27 @@ pub(crate) fn start() -> Bench {
     }
 }
 
-fn put(text: &[u8]) {
-    io::write_all(STDOUT_FILENO, text);
+fn hex(rt: &impl Print, v: u8) -> io::Result<()> {
+    print!(rt; "{v:02X}")
 }
 
-fn hex(v: u8) {
-    let digits = b"0123456789ABCDEF";
-    let two = [digits[(v / 16) as usize], digits[(v % 16) as usize]];
-    put(&two);
-}
-
-fn hexes(bytes: &[u8]) {
-    for at in 0..bytes.len() {
-        hex(bytes[at]);
+fn hexes(rt: &impl Print, bytes: &[u8]) -> io::Result<()> {
+    for b in bytes {
+        hex(rt, *b)?;
     }
+    Ok(())
 }
 
 // The text from byte 1 on.
-fn rest(text: &[u8], end: usize) {
+fn rest(rt: &impl Print, text: &[u8], end: usize) -> io::Result<()> {
     if 1 <= end && end <= text.len() {
-        put(&text[1..end]);
+        rt.write_all(&text[1..end])?;
     }
+    Ok(())
 }
 
 // The row of an answer as the replay text has it, behind the number of its line; sent is a sent frame's bytes.
-fn row(answer: Answer, sent: &[u8], irq: u8, looked: u8) {
+fn row(rt: &impl Print, answer: Answer, sent: &[u8], irq: u8, looked: u8) -> io::Result<()> {
     let mut text = [0u8; 64];
     let end = report::row(
         &mut text,
@@ -70,28 +66,29 @@ fn row(answer: Answer, sent: &[u8], irq: u8, looked: u8) {
         irq,
         looked,
     );
-    rest(&text, end);
+    rest(rt, &text, end)
 }
 
 // The row of a sent frame, which is the room's first k bytes.
-fn sent(room: &[u8], k: u8, irq: u8, looked: u8) {
+fn sent(rt: &impl Print, room: &[u8], k: u8, irq: u8, looked: u8) -> io::Result<()> {
     let n = k as usize;
     if n <= room.len() {
-        row(Answer::Sent(k), &room[..n], irq, looked);
+        row(rt, Answer::Sent(k), &room[..n], irq, looked)?;
     }
+    Ok(())
 }
 
 // The report of a step, the room being as it left it.
-fn print(d: Done, room: &[u8]) -> Controller {
+fn print(rt: &impl Print, d: Done, room: &[u8]) -> io::Result<Controller> {
     let answer = d.answer;
     let next = d.next;
     let looked = d.looked;
     let irq = next.lines();
     match answer {
-        Answer::Sent(k) => sent(room, k, irq, looked),
-        _ => row(answer, b"", irq, looked),
+        Answer::Sent(k) => sent(rt, room, k, irq, looked)?,
+        _ => row(rt, answer, b"", irq, looked)?,
     }
-    next
+    Ok(next)
 }
 
 // A frame, its bytes being a value.
@@ -120,22 +117,28 @@ fn called(c: Controller, call: Call, f: FrameBytes, room: &mut [u8]) -> Done {
 }
 
 // The call with a room of so many bytes, at most twenty, all EE, which is printed after a slot.
-fn reported(c: Controller, call: Call, f: FrameBytes, size: u8) -> Controller {
+fn reported(
+    rt: &impl Print,
+    c: Controller,
+    call: Call,
+    f: FrameBytes,
+    size: u8,
+) -> io::Result<Controller> {
     let mut room = [0xEEu8; 20];
     if 20 < size {
-        return c;
+        return Ok(c);
     }
     let n = size as usize;
     let lent = &mut room[..n];
     let d = called(c, call, f, lent);
-    let next = print(d, lent);
+    let next = print(rt, d, lent)?;
     let Call::Slot(_) = call else {
-        return next;
+        return Ok(next);
     };
-    put(b"room ");
-    hexes(lent);
-    put(b"\n");
-    next
+    rt.print("room ")?;
+    hexes(rt, lent)?;
+    rt.print("\n")?;
+    Ok(next)
 }
 
 // A byte of a step's line: a tab for a space.
@@ -143,12 +146,12 @@ fn tab(b: u8) -> u8 {
     if b == b' ' { b'\t' } else { b }
 }
 
-fn show(h: Held) {
-    let bytes = h.bytes;
+fn show(rt: &impl Print, h: Held) -> io::Result<()> {
     let n = h.len as usize;
     if n <= 64 {
-        put(&bytes[..n]);
+        rt.write_all(&h.bytes[..n])?;
     }
+    Ok(())
 }
 
 // The value of two digits, as a read's address has it.
@@ -179,43 +182,43 @@ fn parsed(h: Held) -> Parsed {
     lines::parse(&bytes[..n])
 }
 
-fn step(s: Session, h: Held) -> Session {
+fn step(rt: &impl Print, s: Session, h: Held) -> io::Result<Session> {
     let p = parsed(h);
     let line = p.line;
     let frame = p.frame;
     let c = s.controller;
-    show(h);
+    show(rt, h)?;
     let Line::Means(call) = line else {
-        put(b"\tunread\n");
-        return s;
+        rt.print("\tunread\n")?;
+        return Ok(s);
     };
-    let next = reported(c, call, frame, s.room);
-    Session {
+    let next = reported(rt, c, call, frame, s.room)?;
+    Ok(Session {
         controller: next,
         room: s.room,
-    }
+    })
 }
 
 // A line of the input.
-fn line(s: Session, h: Held) -> Session {
+fn line(rt: &impl Print, s: Session, h: Held) -> io::Result<Session> {
     let bytes = h.bytes;
     if h.len == 0 {
-        return s;
+        return Ok(s);
     }
     let mut next = s;
     match bytes[0] {
         b'#' => {
-            show(h);
-            put(b"\n");
-            fresh()
+            show(rt, h)?;
+            rt.print("\n")?;
+            Ok(fresh())
         }
-        b'/' => s,
+        b'/' => Ok(s),
         b'r' => {
             let room = value(bytes[5], bytes[6]);
             next.room = room;
-            next
+            Ok(next)
         }
-        _ => step(s, h),
+        _ => step(rt, s, h),
     }
 }
 
@@ -231,26 +234,26 @@ fn longer(h: Held, b: u8) -> Held {
     Held { bytes, len: more }
 }
 
-fn byte(t: Bench, b: u8) -> Bench {
+fn byte(rt: &impl Print, t: Bench, b: u8) -> io::Result<Bench> {
     let s = t.session;
     let h = t.held;
     if b == b'\n' {
-        return Bench {
-            session: line(s, h),
+        return Ok(Bench {
+            session: line(rt, s, h)?,
             held: pieces::none(),
-        };
+        });
     }
-    Bench {
+    Ok(Bench {
         session: s,
         held: longer(h, b),
-    }
+    })
 }
 
 // The bench after some bytes of the input.
-pub(crate) fn fed(t: Bench, piece: &[u8]) -> Bench {
+pub(crate) fn fed(rt: &impl Print, t: Bench, piece: &[u8]) -> io::Result<Bench> {
     let mut next = t;
-    for at in 0..piece.len() {
-        next = byte(next, piece[at]);
+    for b in piece {
+        next = byte(rt, next, *b)?;
     }
-    next
+    Ok(next)
 }

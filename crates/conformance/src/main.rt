@@ -1,44 +1,21 @@
 // Runs the controller through the fixed sessions that it reads from standard input, and prints each step with its report: answer,
 // detail and the five lines, as the replay text writes them. What it prints is compared with the file stdout.
+#![tactic(auto)]
+
 mod bench;
 
-use bench::Bench;
-use libc::STDIN_FILENO;
+use std::io::{self, Read};
 
-// The next bytes of standard input, and whether there were any.
-#[derive(Drop)]
-struct After {
-    bench: Bench,
-    more: bool,
-}
-
-fn turn(b: Bench, piece: &mut [u8]) -> After {
-    let got = libc::read(STDIN_FILENO, piece);
-    let n = io::count(got, piece);
-    if n == 0 {
-        return After {
-            bench: b,
-            more: false,
-        };
-    }
-    let next = bench::fed(b, &piece[..n]);
-    After {
-        bench: next,
-        more: true,
-    }
-}
-
-fn main() {
-    let mut piece = io::buffer();
+fn main(rt: HostRuntime) -> io::Result<()> {
+    let mut piece = [0u8; 4096];
     let mut b = bench::start();
-    let mut turns = u64::MAX;
-    while turns > 0 {
-        let t = turn(b, &mut piece);
-        b = t.bench;
-        let more = t.more;
-        if !more {
-            return;
+    let mut input = rt.stdin();
+    for _ in 0..u64::MAX {
+        let n = input.read(&mut piece)?;
+        if n == 0 {
+            break;
         }
-        turns -= 1;
+        b = bench::fed(&rt, b, &piece[..n])?;
     }
+    Ok(())
 }

@@ -1,2 +1,3 @@
 pub mod Copy
 pub mod Laws
+pub mod Payload

@@ -1,7 +1,7 @@
 -- Laws of what is public: sizes stay, each change of a buffer shows in its head, and there is what is public of a sent frame and
 -- its room.
 use Rattle.std.specs.Prelude.{◌≡◌, refl, ℕ, zero, suc, ◌+◌, min, List, [], ◌∷◌, ◌++◌, get_or, set, drop, length, replicate}
-use Rattle.std.proofs.Common.{ap, ap₂, sym, ◌∙◌, arith, length-drop}
+use Rattle.std.proofs.Common.{ap, ap₂, arith, length-drop}
 use Rattle.std.proofs.lemmas.List.{length-map, length-replicate}
 use Rattle.std.proofs.Math.Seq.{take-append_seam, drop-append_seam}
 use Rattle.contents.specs.declared.Contents.{Contents}
@@ -93,7 +93,7 @@ pub head-size : (h : Head) → length (head_frame h) ≡ 2 + min 12 h.len
 unfolding head_frame
 head-size h = let e : length (replicate {A = ℕ} (min 12 h.len) 0) ≡ min 12 h.len = length-replicate (min 12 h.len) 0 in omega arith
 
-fill-seen : (f room : List ℕ) → seen_part f (fill_room f room) ≡ hide_data f ++ zeros (drop (length f) room)
+pub fill-seen : (f room : List ℕ) → seen_part f (fill_room f room) ≡ hide_data f ++ zeros (drop (length f) room)
 unfolding fill_room
 fill-seen f room =
     ap₂ (λ (x y : List ℕ). hide_data x ++ zeros y) (take-append_seam f (drop (length f) room)) (drop-append_seam f (drop (length f) room))
@@ -106,15 +106,6 @@ head-hide h = ap (λ (t : List ℕ). h.ident ∷ (h.len ∷ t)) (blanks (min 12 
     blanks zero = refl
     blanks (suc k) = ap (λ (t : List ℕ). 0 ∷ t) (blanks k)
 
-rest-zeros : (m n : ℕ) (room : List ℕ) → m ≡ n → zeros (drop m room) ≡ zeros (drop n (zeros room))
+pub rest-zeros : (m n : ℕ) (room : List ℕ) → m ≡ n → zeros (drop m room) ≡ zeros (drop n (zeros room))
 rest-zeros m n room e =
     zeros-same (drop m room) (drop n (zeros room)) (simp (length-drop, e, zeros-length))
-
--- it is in the buffer's head and in the room's length
-pub room-head : (b : Contents) (room : List ℕ) →
-    seen_part (frame_of b) (fill_room (frame_of b) room) ≡ seen_part (head_frame (head_of b)) (fill_room (head_frame (head_of b)) (zeros room))
-room-head b room =
-    fill-seen (frame_of b) room
-    ∙ ap₂ (λ (x y : List ℕ). x ++ y) (frame-head b ∙ sym (head-hide (head_of b)))
-    (rest-zeros (length (frame_of b)) (length (head_frame (head_of b))) room (frame-size b ∙ sym (head-size (head_of b))))
-    ∙ sym (fill-seen (head_frame (head_of b)) (zeros room))

@@ -1,11 +1,13 @@
 // A buffer's contents, and a window's reads and writes of them.
 // The functions take the fourteen bytes by value and return them so; each answers for every argument.
+#![tactic(auto)]
+
 ghost use Rattle.std.specs.Prelude.{◌≡◌, get_or};
 ghost use Rattle.contents.specs.Bytes.{cut, with_ident, with_length, with_data};
 
 // Identifier, length, data 0 to 11: fourteen bytes that travel as one array, copied whole.
 #[repr(C)]
-#[derive(Drop)]
+#[derive(Clone, Copy)]
 pub struct Contents {
     pub bytes: [u8; 14],
 }

@@ -6,17 +6,15 @@ use mathlib.Core.Bool.{Bool, true, false, not, false≢true}
 use native.Mathlib.Omega.{arith}
 use borrow.Author.Tests.{lt-ltb, ltb-true, ltb-false, eqb-true}
 use lib.Dec.{T, eqb, ltb}
-use lib.ListN.{length, length-map}
+use lib.ListN.{length}
 use types.Run.{OneOf, miss}
-use mir.Val.{Val, has_key}
-use denote.Shadow.{shadow}
+use mir.Val.{has_key}
 use denote.Struct.Declared.{row}
 use denote.Enum.Declared.{tag_of}
 use Rattle.masks.specs.PickLaws.{pick_true, pick-false, pick-keeps, by-test}
 use Rattle.masks.specs.Pick.{pick}
 use Rattle.masks.specs.Bits.{some_of}
 use Rattle.masks.specs.SearchLaws.{some-false}
-use Rattle.contents.specs.contracts.Contents.{the_type as the-contents}
 use Rattle.contents.specs.declared.Contents.{Contents}
 use Rattle.rules.specs.declared.Answer.TheVariants.{Ok, Refused}
 use Rattle.rules.specs.declared.Places.{Places}
@@ -37,12 +35,6 @@ use Rattle.controller.specs.Session.{step_of}
 use Rattle.controller.specs.Calls.{done_of}
 use Rattle.controller.specs.Code.{unlooked, saying, changed, holder_in, holder_of, window_row, value_in, register_value, read_answer, reached_in, change_in, register_change, low_change_in, low_change, control_change, write_change}
 use Rattle.controller.specs.AccessLaws.{write-changes}
-use Rattle.controller.specs.contracts.Controller.{the_type as the-controller}
-
--- ---- a controller that the code holds has sixteen rows
-
-pub sixteen-rows : (c : Controller) (vs : List Val) → shadow ((row the-controller).own_val c vs) → length c.rows ≡ 16
-sixteen-rows c vs good = sym (length-map c.rows the-contents.to) ∙ good.1.1.1.0.1.0.1
 
 -- ---- the registers that have no arm of their own, by their places in the declaration
 
@@ -247,9 +239,6 @@ unfolding read_answer read_refusal first_of refuses1
 far-read c a row h = simp (lt-ltb 0x5F a h, pick_true, pick-false)
 
 -- ---- the two places
-
-pub two-held : (c : Controller) (vs : List Val) → shadow ((row the-controller).own_val c vs) → length c.held ≡ 2
-two-held c vs good = sym (length-map c.held the-contents.to) ∙ good.1.1.1.1.0.1.0.1
 
 pub newest-below : (p : Places) (n : ℕ) → newest_of p n < 2
 unfolding newest_of

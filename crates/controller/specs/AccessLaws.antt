@@ -1,4 +1,5 @@
--- Register reads and writes in the terms of the code: that their answers and changes do what the rules say.
+-- Register reads and writes in the terms of the code: that the changes of writes do what the rules say, and towards the answers of reads,
+-- which are in proofs/AccessLaws.antt.
 use Rattle.std.proofs.Math.Path.{◌≡◌, refl, sym, ap, ap₂}
 use Rattle.std.proofs.Common.{◌∙◌}
 use Rattle.std.specs.Prelude.{ℕ, suc, ◌-◌, ◌%◌, ◌≤◌, ◌<◌, Bool, ◌&&◌, ◌||◌, set, length}
@@ -15,18 +16,16 @@ use Rattle.masks.specs.Bits.{some_of}
 use Rattle.masks.specs.SearchLaws.{some-false}
 use Rattle.contents.specs.declared.Contents.{Contents}
 use Rattle.contents.specs.Bytes.{data_at, no_contents}
-use Rattle.rules.specs.declared.Answer.{Answer}
 use Rattle.rules.specs.declared.Answer.TheVariants.{Ok, Value, Refused}
 use Rattle.rules.specs.declared.Register.{Register}
 use Rattle.rules.specs.declared.Control.{Control}
 use Rattle.rules.specs.Registers.{Region, send_place, receive_place, fifo_place, control_of, elsewhere, region_of, low_map, register_at, has, LOCK}
-use Rattle.rules.specs.Kinds.{fifo_holder}
 use Rattle.rules.specs.Steps.{read, write, data_register}
 use Rattle.rules.specs.Plan.{head_at, Move, release, say}
 use Rattle.rules.specs.Waiting.{delivery, deliveries}
 use Rattle.waiting.specs.Code.{is_awaited, newest_of}
 use Rattle.writes.specs.CodeDelivery.{releases}
-use Rattle.rules.specs.Reads.{value_of, window_reply, reply_in, read_reply}
+use Rattle.rules.specs.Reads.{window_reply, read_reply}
 use Rattle.rules.specs.Writes.{written, window_moves, moves_in, write_moves}
 use Rattle.rules.specs.Refusals.{refuses1, first_of, read_refusal, write_refusal, refusal}
 use Rattle.rules.specs.Rules.{act, decide}
@@ -36,20 +35,20 @@ use Rattle.controller.specs.Carry.{heads, row_at, move_all, hold_all, answer_of,
 use Rattle.controller.specs.Session.{step_of}
 use Rattle.controller.specs.ViewLaws.{head_at_lem}
 use Rattle.controller.specs.Calls.{done_of}
-use Rattle.controller.specs.Code.{answered, unlooked, staying, told_of, changed, holder_in, holder_of, window_row, window_byte, value_in, register_value, read_answer, write_place, window_change, reached_in, release_change, change_in, register_change, write_change}
-use Rattle.controller.specs.CodeLaws.{step-plain, step-told, by-plan, plain_done, row-own, unlooked-told, says-only, places_row, puts-row}
+use Rattle.controller.specs.Code.{answered, unlooked, staying, changed, window_byte, write_place, window_change, reached_in, release_change, change_in, register_change, write_change}
+use Rattle.controller.specs.CodeLaws.{step-plain, by-plan, plain_done, row-own, unlooked-told, says-only, places_row, puts-row}
 
 -- ---- register reads
 
 -- the places of the windows that are data registers
-data_in : Region → Bool
+unfoldable pub data_in : Region → Bool
 data_in (send_place p) = not (ltb p 2)
 data_in (receive_place p) = not (ltb p 2)
 data_in (fifo_place p) = not (ltb p 2)
 data_in (control_of n) = false
 data_in elsewhere = false
 
-data_place : Register → Bool
+unfoldable pub data_place : Register → Bool
 data_place r = data_in (region_of r)
 
 mixed : ℕ → Bool
@@ -60,7 +59,7 @@ none-mixed : some_of mixed 0x60 ≡ false
 unfolding some_of mixed data_place data_in data_register register_at low_map pick
 none-mixed = refl
 
-data-place : (a : ℕ) → a < 0x60 → data_place (register_at a) ≡ true → data_register a ≡ true
+pub data-place : (a : ℕ) → a < 0x60 → data_place (register_at a) ≡ true → data_register a ≡ true
 unfolding mixed
 data-place a h d = not-false (data_register a) (simp d at (some-false mixed 0x60 none-mixed a h))
 
@@ -74,7 +73,7 @@ module _ (rows : List Contents) (sixteen : length rows ≡ 16) (a : ℕ) where
       by-test (ltb n 16) (λ t. pick_true (ltb n 16) _ _ t ∙ ap (λ (b : Contents). get_or b.bytes p 0) (row-own rows n _ (ltb-true n 16 t) refl))
       (λ t. pick-false (ltb n 16) _ _ t ∙ sym (past-last n p (ltb-false n 16 t)))
 
-  window-value : (n p : ℕ) → (ltb p 2 ≡ false → data_register a ≡ true) →
+  pub window-value : (n p : ℕ) → (ltb p 2 ≡ false → data_register a ≡ true) →
       Value (window_byte n p (row_at rows (n % 16))) ≡ answer_of (read a) rows (window_reply (heads rows) n p)
   unfolding window_reply
   window-value n p d =
@@ -95,21 +94,7 @@ module _ (rows : List Contents) (sixteen : length rows ≡ 16) (a : ℕ) where
           back h = omega arith
 
 module _ (c : Controller) (sixteen : length c.rows ≡ 16) (a : ℕ) where
-  region-value : (g : Region) (v : ℕ) → (data_in g ≡ true → data_register a ≡ true) →
-      Value (value_in c.control (row_at c.rows (holder_in c.control g % 16)) g v) ≡ answer_of (read a) c.rows (reply_in c.control (heads c.rows) g v)
-  unfolding data_in
-  region-value (send_place p) v d = window-value c.rows sixteen a c.control.transmit.holder p (λ t. d (ap not t))
-  region-value (receive_place p) v d = window-value c.rows sixteen a c.control.receive.holder p (λ t. d (ap not t))
-  region-value (fifo_place p) v d = window-value c.rows sixteen a (fifo_holder c.control) p (λ t. d (ap not t))
-  region-value (control_of n) v d = refl
-  region-value elsewhere v d = refl
-
-  register-value : (r : Register) → (data_place r ≡ true → data_register a ≡ true) →
-      Value (register_value c.control r (row_at c.rows (window_row c.control r))) ≡ answer_of (read a) c.rows (read_reply c.control (heads c.rows) r)
-  unfolding read_reply register_value holder_of data_place
-  register-value r d = region-value (region_of r) (value_of c.control r) d
-
-  low-address : read_refusal c.control a ≡ 0 → a < 0x60
+  pub low-address : read_refusal c.control a ≡ 0 → a < 0x60
   unfolding read_refusal first_of refuses1
   low-address e =
       by-test (ltb 0x5F a) (λ t. absurd (never (simp (pick_true, t) at e))) (λ t. let h = ltb-false 0x5F a t in omega arith)
@@ -117,27 +102,13 @@ module _ (c : Controller) (sixteen : length c.rows ≡ 16) (a : ℕ) where
       never : ◌≡◌ {A = ℕ} 1 0 → ⊥
       never q = omega arith
 
-  read-plan : read_refusal c.control a ≡ 0 → step_of c (read a) ≡ carry (read a) c.rows c.held (record { control = c.control; moves = []; reply = read_reply c.control (heads c.rows) (register_at a); looked = 0 })
+  pub read-plan : read_refusal c.control a ≡ 0 → step_of c (read a) ≡ carry (read a) c.rows c.held (record { control = c.control; moves = []; reply = read_reply c.control (heads c.rows) (register_at a); looked = 0 })
   unfolding decide refusal act pick
   read-plan e = step-plain c (read a) ∙ ap (carry (read a) c.rows c.held) (simp e)
 
-  read-accepted : read_refusal c.control a ≡ 0 → done_of (step_of c (read a)) ≡ answered c (Value (register_value c.control (register_at a) (row_at c.rows (window_row c.control (register_at a)))))
-  unfolding carry move_all hold_all
-  read-accepted e = step-told c (read a) ∙ ap told_of (read-plan e) ∙ ap (λ (x : Answer). answered c x) (sym (register-value (register_at a) (data-place a (low-address e))))
-
-  read-refused : eqb (read_refusal c.control a) 0 ≡ false → done_of (step_of c (read a)) ≡ answered c (Refused (read_refusal c.control a))
+  pub read-refused : eqb (read_refusal c.control a) 0 ≡ false → done_of (step_of c (read a)) ≡ answered c (Refused (read_refusal c.control a))
   unfolding decide refusal
   read-refused t = by-plan c (read a) _ (pick-false (eqb (read_refusal c.control a) 0) _ _ t) ∙ plain_done c (read a) c.control _
-
-  -- row being that of the window's holder
-  pub read-answers : (row : Contents) → row ≡ row_at c.rows (window_row c.control (register_at a)) → staying c (read_answer c.control a row) ≡ done_of (step_of c (read a))
-  unfolding read_answer
-  read-answers row e =
-      ap (λ (b : Contents). staying c (read_answer c.control a b)) e
-      ∙ by-test (eqb (read_refusal c.control a) 0)
-      (λ t. ap (λ (x : Answer). staying c (unlooked x)) (pick_true (eqb (read_refusal c.control a) 0) _ _ t) ∙ unlooked-told c (Value _) refl
-      ∙ sym (read-accepted (eqb-true (read_refusal c.control a) 0 t)))
-      (λ t. ap (λ (x : Answer). staying c (unlooked x)) (pick-false (eqb (read_refusal c.control a) 0) _ _ t) ∙ unlooked-told c (Refused _) refl ∙ sym (read-refused t))
 
 -- ---- register writes
 

@@ -1,7 +1,7 @@
--- A buffer's bytes from step to step, and what a register reads that shows one.
+-- Towards proofs/BufferBytesLaws.antt: a buffer's bytes after each kind of step, and the registers that show one.
 use Rattle.std.specs.Prelude.{◌≡◌, Bool, true, false, ◌&&◌, ◌||◌, not, set, length, eqb, ltb}
 use Rattle.std.proofs.Math.Path.{refl, ap}
-use Rattle.std.proofs.Common.{sym, ap₂, ◌∙◌, get_or-set_same, get_or-set_other}
+use Rattle.std.proofs.Common.{sym, ◌∙◌, get_or-set_same, get_or-set_other}
 use Prim.Native.Nat.{ℕ, zero, suc, ◌+◌, ◌-◌, ◌≤◌, ◌<◌}
 use Rattle.std.proofs.Math.Bool.{and-eq-true_iff, false≢true}
 use mathlib.Core.List.{List, []}
@@ -21,16 +21,16 @@ use Rattle.rules.specs.declared.Answer.TheVariants.{Value, Refused}
 use Rattle.rules.specs.declared.Control.{Control}
 use Rattle.rules.specs.Registers.{Region, send_place, receive_place, fifo_place, control_of, elsewhere, region_of, register_at, low_map, has, LOCK}
 use Rattle.rules.specs.Kinds.{fifo_holder}
-use Rattle.rules.specs.Refusals.{refusal, read_refusal, write_refusal, first_of, refuses1, refuses2, refuses11}
-use Rattle.rules.specs.Reads.{window_reply, reply_in, read_reply}
+use Rattle.rules.specs.Refusals.{refusal, write_refusal, refuses11}
+use Rattle.rules.specs.Reads.{window_reply}
 use Rattle.rules.specs.Writes.{window_moves, moves_in, write_moves}
-use Rattle.rules.specs.Waiting.{asleep, deliveries}
-use Rattle.waiting.specs.Code.{is_awaited, newest_of}
+use Rattle.rules.specs.Waiting.{deliveries}
+use Rattle.waiting.specs.Code.{is_awaited}
 use Rattle.rules.specs.Answers.{is_put, is_put_in, is_held, word_of, WAITING, number_in, given_of}
-use Rattle.rules.specs.Steps.{Step, reset, read, write, sync, sync_due, slot, frame, fault, timeout, data_register}
+use Rattle.rules.specs.Steps.{Step, read, write, frame, data_register}
 use Rattle.rules.specs.Plan.{Plan}
-use Rattle.rules.specs.Rules.{act, decide}
-use Rattle.rules.specs.BusPlanLaws.{FramePlan, drops, waits, puts, frame-plan, SlotPlan, says, sends, slot-plan}
+use Rattle.rules.specs.Rules.{decide}
+use Rattle.rules.specs.BusPlanLaws.{FramePlan, drops, waits, puts, SlotPlan, says, sends}
 use Rattle.controller.specs.declared.Controller.{Controller}
 use Rattle.controller.specs.declared.Done.{Done}
 use Rattle.controller.specs.Carry.{heads, row_at, move_all, answer_of, Outcome, carry}
@@ -38,10 +38,9 @@ use Rattle.controller.specs.Session.{step_of}
 use Rattle.controller.specs.Calls.{done_of}
 use Rattle.controller.specs.BufferBytes.{byte_at, is_place_of, is_release_of, shows, delivers, may_change}
 use Rattle.controller.specs.Code.{changed, event_change, write_place}
-use Rattle.controller.specs.CodeLaws.{step-plain, placed-none, sync-changes, sync-due-changes, fault-changes, timeout-changes, slot_plan}
+use Rattle.controller.specs.CodeLaws.{step-plain, placed-none}
 use Rattle.controller.specs.AccessLaws.{window-moves, deliveries-rows, write-accepted, write-refused}
 use Rattle.controller.specs.ViewLaws.{head_at_lem}
-use Rattle.controller.specs.Unchanged.{read-unchanged}
 
 -- ---- a frame
 
@@ -72,7 +71,7 @@ unfolding carry decide refusal refuses11 pick
 size-refused c good f t = ap (λ (o : Outcome). o.answer) (step-plain c (frame good f)) ∙ simp t
 
 -- one that is put elsewhere, or nowhere, leaves the buffer
-unput-plan : (rows held : List Contents) (good : Bool) (f : List ℕ) (n : ℕ) (p : Plan) → FramePlan p →
+pub unput-plan : (rows held : List Contents) (good : Bool) (f : List ℕ) (n : ℕ) (p : Plan) → FramePlan p →
     is_put_in n (carry (frame good f) rows held p).answer ≡ false → row_at (carry (frame good f) rows held p).next.rows n ≡ row_at rows n
 unfolding carry move_all
 unput-plan rows held good f n p (drops d a k q r) x = refl
@@ -164,7 +163,7 @@ module _ (c : Controller) (a v n k : ℕ) where
   region-other (control_of m) e = release_other m e
   region-other elsewhere e = refl
 
-  write_keeps : may_change c n k (write a v) ≡ false → byte_at (step_of c (write a v)).next n k ≡ byte_at c n k
+  pub write_keeps : may_change c n k (write a v) ≡ false → byte_at (step_of c (write a v)).next n k ≡ byte_at c n k
   unfolding may_change refusal shows delivers write_moves
   write_keeps e =
       by-test (eqb (write_refusal c.control a v) 0)
@@ -173,35 +172,17 @@ module _ (c : Controller) (a v n k : ℕ) where
 
 -- ---- any step
 
-slot-rows : (e : Step) (rows held : List Contents) (p : Plan) → SlotPlan p → (carry e rows held p).next.rows ≡ rows
+pub slot-rows : (e : Step) (rows held : List Contents) (p : Plan) → SlotPlan p → (carry e rows held p).next.rows ≡ rows
 unfolding carry move_all
 slot-rows e rows held p (says d a u) = refl
 slot-rows e rows held p (sends d n) = refl
 
 module _ (c : Controller) (n k : ℕ) where
   -- a step that only answers
-  event-keeps : (e : Step) → changed c (event_change c e) ≡ done_of (step_of c e) → byte_at (step_of c e).next n k ≡ byte_at c n k
+  pub event-keeps : (e : Step) → changed c (event_change c e) ≡ done_of (step_of c e) → byte_at (step_of c e).next n k ≡ byte_at c n k
   event-keeps e same =
       ap (λ (d : Done). byte_at d.next n k) (sym same)
       ∙ ap (λ (rows : List Contents). get_or (row_at rows n).bytes k 0) (placed-none c.rows 16 _ (omega arith))
-
-  pub step_keeps : (e : Step) → may_change c n k e ≡ false → byte_at (step_of c e).next n k ≡ byte_at c n k
-  unfolding may_change
-  step_keeps reset x = absurd (false≢true (sym x))
-  step_keeps (read a) x = ap (λ (d : Controller). byte_at d n k) (read-unchanged c a)
-  step_keeps (write a v) x = write_keeps c a v n k x
-  step_keeps (sync s) x = event-keeps (sync s) (sync-changes c s)
-  step_keeps sync_due x = event-keeps sync_due (sync-due-changes c)
-  step_keeps (slot i room) x =
-      ap (λ (o : Outcome). byte_at o.next n k) (step-plain c (slot i room))
-      ∙ ap (λ (rows : List Contents). get_or (row_at rows n).bytes k 0) (slot-rows (slot i room) c.rows c.held (slot_plan c i room) (slot-plan c.control (heads c.rows) i room))
-  step_keeps (frame good f) x =
-      let same = step-plain c (frame good f) in
-      ap (λ (o : Outcome). byte_at o.next n k) same
-      ∙ ap (λ (b : Contents). get_or b.bytes k 0)
-      (unput-plan c.rows c.held good f n _ (frame-plan c.control (heads c.rows) good f) (ap (λ (o : Outcome). is_put_in n o.answer) (sym same) ∙ x))
-  step_keeps (fault s) x = event-keeps (fault s) (fault-changes c s)
-  step_keeps timeout x = event-keeps timeout (timeout-changes c)
 
 -- ---- a read
 
@@ -253,7 +234,7 @@ none-shown false x e = refl
 
 module _ (c : Controller) (a n : ℕ) where
   -- place k of the window of n, whose byte k is 0
-  place-reads : (k : ℕ) → byte_at c n k ≡ 0 → answer_of (read a) c.rows (window_reply (heads c.rows) n k) ≡ Value 0
+  pub place-reads : (k : ℕ) → byte_at c n k ≡ 0 → answer_of (read a) c.rows (window_reply (heads c.rows) n k) ≡ Value 0
   unfolding window_reply pick
   place-reads zero z = ap Value (ap (λ (h : Head). h.ident) (head_at_lem c.rows n) ∙ z)
   place-reads (suc zero) z = ap Value (ap (λ (h : Head). h.len) (head_at_lem c.rows n) ∙ z)
@@ -261,21 +242,8 @@ module _ (c : Controller) (a n : ℕ) where
       let back : suc (suc j) - 2 ≡ j = omega arith in
       simp (le-ltb (suc (suc j)) 2 (omega arith), back) (by-test (ltb n 16) (λ t. simp t (ap Value (none-shown (data_register a) _ z))) (λ t. simp t))
 
-  window-reads : (h p k : ℕ) → (eqb h n && eqb p k) ≡ true → byte_at c n k ≡ 0 → answer_of (read a) c.rows (window_reply (heads c.rows) h p) ≡ Value 0
-  window-reads h p k e z =
-      let both = (and-eq-true_iff (eqb h n) (eqb p k)).0 e in
-      ap₂ (λ (x y : ℕ). answer_of (read a) c.rows (window_reply (heads c.rows) x y)) (eqb-true h n both.0) (eqb-true p k both.1) ∙ place-reads k z
-
-  region-reads : (k : ℕ) (g : Region) (v : ℕ) → is_place_of c.control n k g ≡ true → byte_at c n k ≡ 0 →
-      answer_of (read a) c.rows (reply_in c.control (heads c.rows) g v) ≡ Value 0
-  region-reads k (send_place p) v e z = window-reads c.control.transmit.holder p k e z
-  region-reads k (receive_place p) v e z = window-reads c.control.receive.holder p k e z
-  region-reads k (fifo_place p) v e z = window-reads (fifo_holder c.control) p k e z
-  region-reads k (control_of m) v e z = absurd (false≢true e)
-  region-reads k elsewhere v e z = absurd (false≢true e)
-
 module _ (c : Controller) (n k a : ℕ) (shown : shows c.control n k a ≡ true) where
-  in_map : ltb 0x5F a ≡ false
+  pub in_map : ltb 0x5F a ≡ false
   unfolding shows
   in_map =
       by-test (ltb 0x5F a)
@@ -283,12 +251,6 @@ module _ (c : Controller) (n k a : ℕ) (shown : shows c.control n k a ≡ true)
       absurd (false≢true (ap (λ (r : Register). is_place_of c.control n k (region_of r)) (sym (past-map a (omega arith))) ∙ shown)))
       (λ t. t)
 
-  not-mcr : eqb a 0 ≡ false
+  pub not-mcr : eqb a 0 ≡ false
   unfolding shows register_at low_map pick
   not-mcr = ne_eqb a 0 (λ e. false≢true (ap (λ (x : ℕ). is_place_of c.control n k (region_of (register_at x))) (sym e) ∙ shown))
-
-  pub zero-read : byte_at c n k ≡ 0 → (step_of c (read a)).answer ≡ pick (asleep c.control) (Refused 2) (Value 0)
-  unfolding carry decide refusal read_refusal first_of refuses1 refuses2 act read_reply shows pick
-  zero-read z =
-      ap (λ (o : Outcome). o.answer) (step-plain c (read a))
-      ∙ by-test (asleep c.control) (λ t. simp (in_map, not-mcr, t)) (λ t. simp (in_map, not-mcr, t) (region-reads c a n k (region_of (register_at a)) _ shown z))

@@ -1,4 +1,5 @@
--- The steps of the bus in the terms of the code: what a change does to the record, and that its changes and rulings do what the rules say.
+-- The steps of the bus in the terms of the code: what a change does to the record, and that its changes (a frame's in
+-- proofs/CodeLaws.antt) and rulings do what the rules say.
 use Rattle.std.specs.Prelude.{◌≡◌, ℕ, ◌%◌, ◌≤◌, ◌<◌, Bool, true, false, List, get_or, set, length, replicate, ltb}
 use Rattle.std.proofs.Math.Path.{refl, sym, ap}
 use Rattle.std.proofs.Common.{ap₂, ◌∙◌, arith}
@@ -29,8 +30,9 @@ use Rattle.rules.specs.Modes.{wake, cancel}
 use Rattle.rules.specs.Bus.{woken, due_kind, lookup, offers, judged, received, slot_for, slotted, synced, due_sync, timed_out, faulted}
 use Rattle.rules.specs.Rules.{on_bus, wakes, sleeps_on, act, decide}
 use Rattle.rules.specs.Hidden.{decide-hide}
-use Rattle.rules.specs.LookedLaws.{looked_by, looked_in, decide-told}
-use Rattle.rules.specs.BusPlanLaws.{FramePlan, drops, waits, puts, frame-plan, SlotPlan, says, sends, slot-plan}
+use Rattle.rules.specs.LookedLaws.{looked_by, looked_in}
+use Rattle.rules.proofs.LookedLaws.{decide-told}
+use Rattle.rules.specs.BusPlanLaws.{FramePlan, drops, waits, puts, SlotPlan, says, sends, slot-plan}
 use Rattle.bus_steps.specs.Code.{ruling_of, is_ready, synced_of, due_of}
 use Rattle.bus_steps.specs.CodeLaws.{synced-ready, due-ready}
 use Rattle.controller.specs.declared.Controller.{Controller}
@@ -208,7 +210,7 @@ unfolding ruling_for
 event-changes c e s = only-changes c e _ s ∙ sym (by-plan c e _ refl)
 
 -- a frame's plan stores the frame's image, or keeps it in a place, whatever stood there
-frame-stores : (c : Controller) → length c.rows ≡ 16 → (good : Bool) (f : List ℕ) (p : Plan) → FramePlan p →
+pub frame-stores : (c : Controller) → length c.rows ≡ 16 → (good : Bool) (f : List ℕ) (p : Plan) → FramePlan p →
     changed c (frame_change (ruling_of p) f) ≡ told_of (carry (frame good f) c.rows c.held p)
 unfolding carry move_all hold_all frame_change
 frame-stores c sixteen good f p (drops d a k q r) = says-only c d (counted_by d a)
@@ -237,14 +239,6 @@ module _ (c : Controller) where
   pub reset-step : done_of (step_of c reset) ≡ staying reset_state accepted
   unfolding step_of decide refusal act pick carry move_all hold_all reset_state
   reset-step = refl
-
-  -- r being the frame's ruling
-  pub frame-changes : length c.rows ≡ 16 → (good : Bool) (f : List ℕ) (r : Ruling) → r ≡ ruling_for c (frame good f) →
-      changed c (frame_change r f) ≡ done_of (step_of c (frame good f))
-  unfolding ruling_for
-  frame-changes sixteen good f r e =
-      ap (λ (x : Ruling). changed c (frame_change x f)) e
-      ∙ frame-stores c sixteen good f _ (frame-plan c.control (heads c.rows) good f) ∙ sym (by-plan c (frame good f) _ refl)
 
   -- the plan of a slot
   abbrev pub slot_plan : ℕ → List ℕ → Plan

@@ -6,7 +6,8 @@ use Rattle.rules.specs.Flags.{lines_of}
 use Rattle.rules.specs.Steps.{Step, hide}
 use Rattle.rules.specs.Plan.{Reply, say, show, send}
 use Rattle.rules.specs.Rules.{decide}
-use Rattle.rules.specs.KeptLinesLaws.{keeps_lines, keeps_by, decide-keeps}
+use Rattle.rules.specs.KeptLinesLaws.{keeps_lines, keeps_by}
+use Rattle.rules.proofs.KeptLinesLaws.{decide-keeps}
 use Rattle.controller.specs.declared.Controller.{Controller}
 use Rattle.controller.specs.Carry.{heads, answer_of, carry}
 use Rattle.controller.specs.Session.{step_of}

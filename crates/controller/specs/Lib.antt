@@ -4,9 +4,8 @@ pub mod Session
 pub mod Calls
 pub mod View
 pub mod BufferBytes
--- final statements
-pub mod Demand3
 pub mod Runs
+-- final statements
 pub mod Unchanged
 pub mod Untouched
 pub mod NoOldBytes

@@ -1,50 +1,25 @@
--- W4, no old bytes behind a short message, from any state: what a buffer holds once a frame is put in it, how long each of its bytes
--- stays, and what the registers read that show those behind the frame.
-use Rattle.std.specs.Prelude.{◌≡◌, refl, ℕ, ◌+◌, ◌≤◌, ◌<◌, Bool, true, not, List, [], ◌∷◌, eqb, get_or, set, length}
-use Rattle.std.proofs.Common.{sym, ap, ◌∙◌, arith, eqb-true}
-use Rattle.std.proofs.Math.Bool.{and-eq-true_iff}
-use Rattle.std.proofs.lemmas.Bool.{false≢true, not-true}
-use Rattle.masks.specs.Pick.{pick}
+-- W4, no old bytes behind a short message, from any state: the frame that is put in a buffer, the record after it and later, and the
+-- registers that show a buffer's bytes. proofs/NoOldBytes.antt says what they read.
+use Rattle.std.specs.Prelude.{◌≡◌, ℕ, ◌+◌, ◌≤◌, ◌<◌, Bool, true, List, eqb, get_or, length}
+use Rattle.std.proofs.Common.{sym, ap, ◌∙◌, eqb-true}
+use Rattle.std.proofs.lemmas.Bool.{false≢true}
 use Rattle.masks.specs.PickLaws.{by-test}
-use Rattle.contents.specs.declared.Contents.{Contents}
-use Rattle.contents.specs.Bytes.{cut, image_of}
-use Rattle.rules.specs.declared.Answer.TheVariants.{Value, Refused}
+use Rattle.contents.specs.Bytes.{cut}
 use Rattle.rules.specs.declared.Control.{Control}
 use Rattle.rules.specs.Kinds.{fifo_holder}
-use Rattle.rules.specs.Waiting.{asleep}
 use Rattle.rules.specs.Answers.{is_put_in}
-use Rattle.rules.specs.Steps.{Step, read, frame}
-use Rattle.rules.specs.BusPlanLaws.{frame-plan}
+use Rattle.rules.specs.Steps.{Step, frame}
 use Rattle.controller.specs.declared.Controller.{Controller}
-use Rattle.controller.specs.Carry.{heads, row_at, Outcome}
-use Rattle.controller.specs.Session.{step_of, end_by, end_of}
-use Rattle.controller.specs.BufferBytes.{byte_at, shows, may_change, spares}
-use Rattle.controller.specs.CodeLaws.{step-plain}
-use Rattle.controller.specs.BufferBytesLaws.{put-plan, size-refused, zero-at, step_keeps, transmit-shows, receive-shows, fifo-shows, zero-read}
+use Rattle.controller.specs.Session.{step_of, end_of}
+use Rattle.controller.specs.BufferBytes.{shows, spares}
+use Rattle.controller.specs.BufferBytesLaws.{size-refused, transmit-shows, receive-shows, fifo-shows}
 
--- "stored n" or "queued n": buffer n holds the frame's image, whatever it held before, and no other buffer changes. (A record made by
--- hand may name a place past the last buffer; then none changes.)
-pub put-image : (c : Controller) (good : Bool) (f : List ℕ) (n : ℕ) → is_put_in n (step_of c (frame good f)).answer ≡ true →
-    (step_of c (frame good f)).next.rows ≡ set c.rows n (image_of f)
-put-image c good f n put =
-    let same = step-plain c (frame good f) in
-    ap (λ (o : Outcome). o.next.rows) same
-    ∙ put-plan c.rows c.held good f n _ (frame-plan c.control (heads c.rows) good f) (ap (λ (o : Outcome). is_put_in n o.answer) (sym same) ∙ put)
-
--- the frame then has 2 + L bytes, L being the length that it is stored with
+-- a frame that is put in a buffer has 2 + L bytes, L being the length that it is stored with
 pub put-sized : (c : Controller) (good : Bool) (f : List ℕ) (n : ℕ) → is_put_in n (step_of c (frame good f)).answer ≡ true → length f ≡ 2 + cut (get_or f 1 0)
 put-sized c good f n put =
     let size = 2 + cut (get_or f 1 0) in
     eqb-true (length f) size
     (by-test (eqb (length f) size) (λ t. t) (λ t. absurd (false≢true (ap (is_put_in n) (sym (size-refused c good f t)) ∙ put))))
-
--- a byte stays as long as no step may change it
-pub byte-stays : (c : Controller) (n k : ℕ) (es : List Step) → spares c n k es ≡ true → byte_at (end_of c es) n k ≡ byte_at c n k
-unfolding end_of end_by spares step_of
-byte-stays c n k [] s = refl
-byte-stays c n k (e ∷ es) s =
-    let both = (and-eq-true_iff (not (may_change c n k e)) (spares (step_of c e).next n k es)).0 s in
-    byte-stays (step_of c e).next n k es both.1 ∙ step_keeps c n k e (not-true (may_change c n k e) both.0)
 
 -- the fourteen registers of each window show its holder's bytes
 pub window-shows : (c : Control) (p : ℕ) → p < 14 →
@@ -53,23 +28,11 @@ window-shows c p h = (transmit-shows c p h, receive-shows c p h, fifo-shows c p 
 
 module _ (c : Controller) (good : Bool) (f : List ℕ) (n : ℕ) (put : is_put_in n (step_of c (frame good f)).answer ≡ true) where
   -- the record once the frame f is put in buffer n
-  abbrev after : Controller
+  abbrev pub after : Controller
   after = (step_of c (frame good f)).next
 
   -- byte k of the buffer, behind the L data bytes: one of 2 + L to 13 (from 14 on there is none); and any steps of which none may
   -- change it
   module _ (k : ℕ) (behind : 2 + cut (get_or f 1 0) ≤ k) (es : List Step) (spared : spares after n k es ≡ true) where
-    abbrev later : Controller
+    abbrev pub later : Controller
     later = end_of after es
-
-    -- it is 0, and stays so until a write to a register that shows it, the next frame that is put in n, at once or when it has
-    -- waited for n, or reset
-    pub zeros-behind : byte_at later n k ≡ 0
-    zeros-behind =
-        let size = put-sized c good f n put in
-        byte-stays after n k es spared
-        ∙ ap (λ (rows : List Contents). get_or (row_at rows n).bytes k 0) (put-image c good f n put) ∙ zero-at c.rows f n k (omega arith) (omega arith)
-
-    -- so a register that shows it reads 0, or is refused 2 asleep
-    pub zeros-read : (a : ℕ) → shows later.control n k a ≡ true → (step_of later (read a)).answer ≡ pick (asleep later.control) (Refused 2) (Value 0)
-    zeros-read a shown = zero-read later n k a shown zeros-behind

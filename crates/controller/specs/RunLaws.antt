@@ -15,7 +15,8 @@ use Rattle.rules.specs.declared.Control.{Control}
 use Rattle.rules.specs.Answers.{word_of, Detail, bytes, detail_of}
 use Rattle.rules.specs.AnswerLaws.{detail-same}
 use Rattle.rules.specs.Plan.{Move, Reply, say, show, send}
-use Rattle.rules.specs.SendingLaws.{says_sent, never-says-sent}
+use Rattle.rules.specs.SendingLaws.{says_sent}
+use Rattle.rules.proofs.SendingLaws.{never-says-sent}
 use Rattle.controller.specs.Calls.{shown_detail, shown}
 
 pub hidden-alike : (es : List Step) → Alike (map hide es) es
@@ -25,7 +26,7 @@ hidden-alike (e ∷ es) = simp (hide-again, hidden-alike es)
 pub run-by-length : (c : Controller) (es : List Step) → length (run_by decide lines_of c es) ≡ length es
 unfolding run_by
 run-by-length c [] = refl
-run-by-length c (e ∷ es) = ap suc (run-by-length _ es)
+run-by-length c (e ∷ es) = ap suc (run-by-length (step_by decide c e).next es)
 
 -- ---- what is shown is what document 01 reports
 

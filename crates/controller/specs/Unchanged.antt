@@ -6,7 +6,7 @@ use Rattle.rules.specs.Steps.{Step, read, room_in, hide}
 use Rattle.rules.specs.Plan.{Plan}
 use Rattle.rules.specs.Rules.{act, decide}
 use Rattle.rules.specs.Answers.{changes_nothing}
-use Rattle.rules.specs.UnchangedLaws.{decide-still}
+use Rattle.rules.proofs.UnchangedLaws.{decide-still}
 use Rattle.controller.specs.declared.Controller.{Controller}
 use Rattle.controller.specs.Carry.{move_all, hold_all, carry, heads}
 use Rattle.controller.specs.Session.{step_of}

@@ -7,7 +7,7 @@ use Rattle.rules.specs.Kinds.{is_armed, is_locked}
 use Rattle.rules.specs.Reads.{bufctl}
 use Rattle.rules.specs.Steps.{Step, hide}
 use Rattle.rules.specs.Untouched.{is_bus_event, TargetsFree, roles_of}
-use Rattle.rules.specs.UntouchedLaws.{decide-spares}
+use Rattle.rules.proofs.UntouchedLaws.{decide-spares}
 use Rattle.controller.specs.declared.Controller.{Controller}
 use Rattle.controller.specs.Carry.{row_at, heads, carry}
 use Rattle.controller.specs.Session.{step_of}

@@ -1,26 +1,25 @@
--- The public view of a controller goes from step to step by itself, whatever the rules are, and what is seen of a report follows
--- from it.
+-- Towards proofs/ViewLaws.antt: the public view of a controller after a move, and what is seen of a report.
 use Rattle.std.specs.Prelude.{◌≡◌, ℕ, zero, suc, Bool, true, false, get_or, set, replicate, length}
 use Rattle.std.proofs.Math.Path.{refl}
-use Rattle.std.proofs.Common.{sym, ap, ◌∙◌}
-use mathlib.Core.List.{List, [], ◌∷◌, map}
+use Rattle.std.proofs.Common.{sym, ap}
+use mathlib.Core.List.{List, [], ◌∷◌}
 use Rattle.std.proofs.Math.ListN.{get_or-map}
 use Rattle.masks.specs.Pick.{pick}
 use Rattle.contents.specs.declared.Contents.{Contents}
 use Rattle.contents.specs.Bytes.{Head, no_head, head_of, no_contents, cut, fill_room}
 use Rattle.contents.specs.Payload.{zeros}
-use Rattle.contents.specs.PayloadLaws.{zeros-zeros, hide-ident, hide-length, head-ident, head-length, head-data, head-store, head_frame, frame-head, head-hide, frame-size, head-size, room-head}
+use Rattle.contents.specs.PayloadLaws.{zeros-zeros, hide-ident, hide-length, head-ident, head-length, head-data, head-store, head_frame, frame-head, head-hide, frame-size, head-size}
+use Rattle.contents.proofs.Payload.{room-head}
 use Rattle.rules.specs.declared.Control.{Control}
 use Rattle.rules.specs.HiddenLaws.{frame-hide, room-hide, reads-hide}
-use Rattle.controller.specs.declared.Controller.{Controller}
 use Rattle.rules.specs.declared.Answer.{Answer}
 use Rattle.rules.specs.declared.Answer.TheVariants.{Value, Sent}
 use Rattle.rules.specs.Steps.{Step, reads_data, frame_in, room_in, hide}
 use Rattle.rules.specs.Plan.{head_at, Move, wipe, set_ident, set_length, set_data, store, hold, release, Reply, say, show, send, Plan, Rules}
-use Rattle.controller.specs.Carry.{heads, row_at, move, move_all, hold_by, hold_all, carry}
+use Rattle.controller.specs.Carry.{heads, row_at, move, hold_by, carry}
 use Rattle.rules.specs.Answers.{word_of, Given, given_of, is_sent, framed, detail_of}
-use Rattle.controller.specs.Session.{Report, report_of, step_by, run_by, seen_detail, seen_room, seen, seen_all}
-use Rattle.controller.specs.View.{View, view_of}
+use Rattle.controller.specs.Session.{Report, report_of, seen_detail, seen_room, seen}
+use Rattle.controller.specs.View.{View}
 
 -- ---- the heads after a move
 
@@ -64,7 +63,7 @@ unfoldable pub head_holds : List ℕ → List Move → List Head → List Head
 head_holds f [] hs = hs
 head_holds f (m ∷ ms) hs = head_holds f ms (head_hold f m hs)
 
-heads-move : (e : Step) (held : List Contents) (m : Move) (rows : List Contents) →
+pub heads-move : (e : Step) (held : List Contents) (m : Move) (rows : List Contents) →
     heads (move e held m rows) ≡ head_move (frame_in (hide e)) (heads held) m (heads rows)
 unfolding head_move
 heads-move e held wipe rows = refl
@@ -75,13 +74,7 @@ heads-move e held (store n) rows = simp (heads-set, head-store, frame-hide, hide
 heads-move e held (hold k) rows = refl
 heads-move e held (release k n) rows = simp (heads-set, head_at_lem)
 
-heads-moves : (e : Step) (held : List Contents) (ms : List Move) (rows : List Contents) →
-    heads (move_all e held ms rows) ≡ head_moves (frame_in (hide e)) (heads held) ms (heads rows)
-unfolding head_moves move_all
-heads-moves e held [] rows = refl
-heads-moves e held (m ∷ ms) rows = heads-moves e held ms (move e held m rows) ∙ ap (head_moves (frame_in (hide e)) (heads held) ms) (heads-move e held m rows)
-
-heads-hold : (e : Step) (m : Move) (held : List Contents) → heads (hold_by e m held) ≡ head_hold (frame_in (hide e)) m (heads held)
+pub heads-hold : (e : Step) (m : Move) (held : List Contents) → heads (hold_by e m held) ≡ head_hold (frame_in (hide e)) m (heads held)
 unfolding head_hold
 heads-hold e wipe held = refl
 heads-hold e (set_ident n v) held = refl
@@ -90,11 +83,6 @@ heads-hold e (set_data n j) held = refl
 heads-hold e (store n) held = refl
 heads-hold e (hold k) held = simp (heads-set, head-store, frame-hide, hide-ident, hide-length)
 heads-hold e (release k n) held = refl
-
-heads-holds : (e : Step) (ms : List Move) (held : List Contents) → heads (hold_all e ms held) ≡ head_holds (frame_in (hide e)) ms (heads held)
-unfolding head_holds hold_all
-heads-holds e [] held = refl
-heads-holds e (m ∷ ms) held = heads-holds e ms (hold_by e m held) ∙ ap (head_holds (frame_in (hide e)) ms) (heads-hold e m held)
 
 -- ---- what is seen of a reply
 
@@ -115,7 +103,7 @@ head_sent hs (show n j) = []
 head_sent hs (send n) = head_frame (head_at hs n)
 
 -- the report on the public view of the rules' plan
-head_report : (Control → ℕ) → List Head → Step → Plan → Report
+pub head_report : (Control → ℕ) → List Head → Step → Plan → Report
 head_report lines hs e p =
     record {
       word = word_of (head_answer hs p.reply);
@@ -138,7 +126,7 @@ room-framed false g room = sym (zeros-zeros room)
 room-free : (a : Answer) (room : List ℕ) → seen_room (detail_of a []) room ≡ seen_room (detail_of a []) (zeros room)
 room-free a room = room-framed (is_sent a) (given_of a) room
 
-report-by : (lines : Control → ℕ) (e : Step) (rows held : List Contents) (c : Control) (ms : List Move) (r : Reply) (k : ℕ) →
+pub report-by : (lines : Control → ℕ) (e : Step) (rows held : List Contents) (c : Control) (ms : List Move) (r : Reply) (k : ℕ) →
     seen e (report_of lines (carry e rows held (record { control = c; moves = ms; reply = r; looked = k })))
     ≡ head_report lines (heads rows) (hide e) (record { control = c; moves = ms; reply = r; looked = k })
 unfolding carry head_report head_answer head_sent fill_room
@@ -161,26 +149,11 @@ module _ (decide : Rules) where
         held = head_holds (frame_in e) (plan_of w e).moves w.held;
       }
 
-  pub step-view : (c : Controller) (e : Step) → view_of (step_by decide c e).next ≡ view_next (view_of c) (hide e)
-  unfolding view_next carry
-  step-view c e = simp (heads-moves, heads-holds)
-
 module _ (decide : Rules) (lines : Control → ℕ) where
   -- what is seen of the report, from the same
-  view_report : View → Step → Report
+  unfoldable pub view_report : View → Step → Report
   view_report w e = head_report lines w.heads e (plan_of decide w e)
 
-  report-view : (c : Controller) (e : Step) → seen e (report_of lines (step_by decide c e)) ≡ view_report (view_of c) (hide e)
-  unfolding view_report
-  report-view c e =
-      let p = decide c.control (heads c.rows) (hide e) in
-      report-by lines e c.rows c.held p.control p.moves p.reply p.looked
-
-  pub view_run : View → List Step → List Report
+  unfoldable pub view_run : View → List Step → List Report
   view_run w [] = []
   view_run w (e ∷ es) = view_report w e ∷ view_run (view_next decide w e) es
-
-  pub run-view : (c : Controller) (es : List Step) → seen_all es (run_by decide lines c es) ≡ view_run (view_of c) (map hide es)
-  unfolding view_run run_by
-  run-view c [] = refl
-  run-view c (e ∷ es) = simp (report-view, run-view (step_by decide c e).next es, step-view)

@@ -68,7 +68,6 @@ impl Controller {
                     first: NONE,
                     second: NONE,
                     swapped: false,
-                    unused: 0,
                 },
                 buffers: Buffers {
                     cfg: 0,

@@ -11,6 +11,7 @@ use rules::{Answer, Control};
 
 // How many dedicated receive buffers were examined for an answer after which the control state is c: those up to the buffer that
 // carries the frame's identifier, or all. No frame changes which they are.
+#[tactic(auto, unfolding(rules::specs::LookedLaws::looked_by, masks::specs::Pick::pick))]
 fn looked(c: Control, a: Answer) -> u8
     ensures { result ≡ looked_by c a }
 {

@@ -2,6 +2,8 @@
 // What it shows are document 01's calls, as methods that take the record by value and return the next one with its answer, one for
 // each call or event; none asks anything of its caller. The other modules say what a call changes, for these methods and for the step
 // on a lent record.
+#![tactic(auto)]
+
 mod calls;
 pub mod changes;
 pub mod events;
@@ -11,7 +13,7 @@ use contents::Contents;
 use rules::{Answer, Control, Fault, SyncKind};
 
 #[repr(C)]
-#[derive(Drop)]
+#[derive(Clone, Copy)]
 pub struct Controller {
     pub control: Control,
     pub rows: [Contents; 16],
@@ -19,14 +21,14 @@ pub struct Controller {
 }
 
 // What a call or an event is answered, and how many dedicated receive buffers were examined: 0 where no frame was looked up.
-#[derive(Drop)]
+#[derive(Clone, Copy)]
 pub struct Answered {
     pub answer: Answer,
     pub looked: u8,
 }
 
 // The record after a call or an event, its answer, and how many dedicated receive buffers were examined.
-#[derive(Drop)]
+#[derive(Clone, Copy)]
 pub struct Done {
     pub next: Controller,
     pub answer: Answer,
@@ -36,7 +38,7 @@ pub struct Done {
 // What a step changes: the control state, and the bytes of one buffer, or of none where its number is 16 or more, or of one waiting
 // place, 0 or 1, or of none where that number is 2 or more. It is small, so that a step in place writes no more of the record than it
 // changes.
-#[derive(Drop)]
+#[derive(Clone, Copy)]
 pub struct Change {
     pub control: Control,
     pub buffer: u8,
@@ -46,7 +48,7 @@ pub struct Change {
 }
 
 // A call or an event as a value; the frame's bytes and the room for a sent frame go beside it.
-#[derive(Drop)]
+#[derive(Clone, Copy)]
 pub enum Call {
     Reset,
     Read(u8),

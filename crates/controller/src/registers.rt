@@ -30,6 +30,7 @@ fn write_place(b: [u8; 14], p: u8, v: u8) -> [u8; 14]
 }
 
 // The holder of a register's window, 16 for a register that is no place of a window.
+#[tactic(auto, unfolding(crate::specs::Code::holder_of))]
 fn holder_of(c: Control, register: Register) -> u8
     ensures { result ≡ holder_of c register }
 {
@@ -53,6 +54,7 @@ fn window_byte(n: u8, p: u8, row: Contents) -> u8
 }
 
 // What a register reads, in the control state c; row is that of its window's holder.
+#[tactic(auto, unfolding(crate::specs::Code::register_value))]
 fn register_value(c: Control, register: Register, row: Contents) -> u8
     ensures { result ≡ register_value c register row }
 {
@@ -84,6 +86,7 @@ fn releases(c: Control, n: u8, v: u8) -> bool
 }
 
 // The write of a register below $50 that gives the control state c, the holders being those of the control state before it.
+#[tactic(auto, unfolding(crate::specs::Code::low_change))]
 fn write_rows(holders: Control, c: Control, register: Register, v: u8, row: Contents) -> Change
     ensures { result ≡ low_change holders c register v row }
 {

@@ -26,15 +26,19 @@ answers-read a h =
     let w = word_below a.answer in
     record { word = omega (arith, w); detail = omega (arith, w); looked = omega (arith, w) }
 
--- no answer of the controller has the word of one of the three that are none of its own
-abbrev pub Below : ℕ → Type 0
-Below w = (w < word_in unknown) × (w < word_in wrong_size) × (w < word_in no_frame)
-
-pub answers-below : (a : Answered) → number_in (given_of a.answer) < 256 → Below (word_in (number_of a))
+-- no answer of the controller has the word of one of the two that are none of its own
+pub answers-below : (a : Answered) → number_in (given_of a.answer) < 256 → (word_in (number_of a) < word_in unknown) × (word_in (number_of a) < word_in wrong_size)
 answers-below a h =
     let w = (answers-read a h).word in
     let b = word_below a.answer in
-    (omega (arith, w, b), omega (arith, w, b), omega (arith, w, b))
+    (omega (arith, w, b), omega (arith, w, b))
+
+-- nor that of the number which says that no frame waits
+pub answers-no_frame : (a : Answered) → number_in (given_of a.answer) < 256 → word_in (number_of a) < word_in no_frame
+answers-no_frame a h =
+    let w = (answers-read a h).word in
+    let b = word_below a.answer in
+    omega (arith, w, b)
 
 -- two answers with the same number are the same, where their details are below 256
 pub answers-apart : (a b : Answered) → number_in (given_of a.answer) < 256 → number_in (given_of b.answer) < 256 → number_of a ≡ number_of b → a ≡ b
@@ -54,9 +58,14 @@ session-details es e b last = detail-byte (end_of reset_state es) e (end-bytes r
 pub session-read : (es : List Step) (e : Step) → AllBytes es → BringsBytes e → Reads (answer_after es e)
 session-read es e b last = answers-read (answer_after es e) (session-details es e b last)
 
--- its word is none of the three that no step of the controller has
-pub session-answers : (es : List Step) (e : Step) → AllBytes es → BringsBytes e → Below (word_in (number_of (answer_after es e)))
+-- its word is none of the two that no step of the controller has
+pub session-answers : (es : List Step) (e : Step) → AllBytes es → BringsBytes e →
+    (word_in (number_of (answer_after es e)) < word_in unknown) × (word_in (number_of (answer_after es e)) < word_in wrong_size)
 session-answers es e b last = answers-below (answer_after es e) (session-details es e b last)
+
+-- nor the one which says that no frame waits
+pub session-no_frame : (es : List Step) (e : Step) → AllBytes es → BringsBytes e → word_in (number_of (answer_after es e)) < word_in no_frame
+session-no_frame es e b last = answers-no_frame (answer_after es e) (session-details es e b last)
 
 -- and no other answer of such a session has its number
 pub session-apart : (xs ys : List Step) (d e : Step) → AllBytes xs → BringsBytes d → AllBytes ys → BringsBytes e →

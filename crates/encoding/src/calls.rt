@@ -9,6 +9,7 @@ use controller::Call;
 use rules::{Fault, SyncKind};
 
 // Whether a kind and its numbers stand for a call. Numbers that the kind doesn't use are not looked at.
+#[tactic(auto, unfolding(crate::specs::Code::known_of))]
 fn known(kind: u32, first: u32, second: u32) -> bool
     ensures { result ≡ known_of kind first second }
 {
@@ -64,6 +65,7 @@ fn sync_kind(first: u32) -> SyncKind
     }
 }
 
+#[tactic(auto, unfolding(crate::specs::Code::fault_kind_of))]
 fn fault_kind(first: u32) -> Fault
     ensures { result ≡ fault_kind_of first }
 {
@@ -76,6 +78,7 @@ fn fault_kind(first: u32) -> Fault
 }
 
 // The call of a kind. Nothing is judged again, so numbers that stand for no call have one here too.
+#[tactic(auto, unfolding(crate::specs::Code::meant_of))]
 pub fn meant(kind: u32, first: u32, second: u32) -> Call
     ensures { result ≡ meant_of kind first second }
 {

@@ -1,4 +1,6 @@
 // The calls and the answers of the C interface as numbers: what a kind and its two numbers stand for, and the number of an answer.
+#![tactic(auto)]
+
 pub mod answers;
 pub mod calls;
 pub mod shown;

@@ -1,5 +1,5 @@
 -- Document 01, 'Bus steps': when a filter pair matches an identifier; request W2: when the rejection pair rejects it.
-use Rattle.std.specs.Prelude.{ℕ, zero, suc, Bool, true, false, ◌&&◌, ◌||◌, not, eqb}
+use Rattle.std.specs.Prelude.{ℕ, zero, suc, Bool, true, ◌&&◌, ◌||◌, not, eqb}
 use Rattle.std.specs.Bool.{beq}
 use Rattle.masks.specs.Bits.{bit_of}
 use Rattle.filter.specs.declared.Filter.{Filter}

@@ -1,10 +1,12 @@
 // The FIFO's identifier filters.
+#![tactic(auto)]
+
 ghost use Rattle.std.specs.Prelude.{◌≡◌};
 ghost use Rattle.filter.specs.Match.{matches, rejects};
 
 // An identifier pattern and its mask: acceptance is $0C and $0D, rejection $14 and $15.
 #[repr(C)]
-#[derive(Drop)]
+#[derive(Clone, Copy)]
 pub struct Filter {
     pub pattern: u8,
     pub mask: u8,

@@ -1,6 +1,8 @@
-// The emulated controller for callers in C: a record that the caller owns, and steps on it by numbers. Each function but the
-// first is given the record's size and looks at that alone where it is another, so that a caller that was built for another
-// record is told so.
+// The emulated controller for callers in C: a record that the caller owns, and steps on it by numbers. Crate hevrukan_c exports these
+// functions under their names. Each but the first two is given the record's size and looks at that alone where it is another, so that a
+// caller that was built for another record is told so.
+#![tactic(auto)]
+
 ghost use Rattle.std.specs.Prelude.{◌≡◌};
 ghost use Rattle.encoding.specs.Calls.{record_size};
 ghost use Rattle.hevrukan.specs.Interface.{version_number, step_effect, reset_next, reset_answer, lines_answer, buffer_effect, waiting_effect};
@@ -11,24 +13,21 @@ use encoding::{SIZE, WRONG_SIZE};
 const VERSION: u32 = 600;
 
 // The bytes of a record.
-#[unsafe(no_mangle)]
-pub extern "C" fn hevrukan_size() -> usize
+pub fn hevrukan_size() -> usize
     ensures { result ≡ record_size }
 {
     SIZE
 }
 
 // The library's version: 10000 times its first number, 100 times its second, and its third.
-#[unsafe(no_mangle)]
-pub extern "C" fn hevrukan_version() -> u32
+pub fn hevrukan_version() -> u32
     ensures { result ≡ version_number }
 {
     VERSION
 }
 
 // The record as after reset, whatever it held.
-#[unsafe(no_mangle)]
-pub extern "C" fn hevrukan_reset(c: &mut Controller, size: usize) -> u32
+pub fn hevrukan_reset(c: &mut Controller, size: usize) -> u32
     ensures { (c.new ≡ reset_next c.old size) × (result ≡ reset_answer size) }
 {
     if size != SIZE {
@@ -39,8 +38,7 @@ pub extern "C" fn hevrukan_reset(c: &mut Controller, size: usize) -> u32
 }
 
 // The step of a kind. Only a frame looks at the frame's bytes, and only a slot at the room.
-#[unsafe(no_mangle)]
-pub extern "C" fn hevrukan_step(
+pub fn hevrukan_step(
     c: &mut Controller,
     size: usize,
     kind: u32,
@@ -61,8 +59,7 @@ pub extern "C" fn hevrukan_step(
 }
 
 // The five lines, 0 to 31: bit 4 FIFO, 3 receive, 2 sync, 1 XSYNC, 0 general.
-#[unsafe(no_mangle)]
-pub extern "C" fn hevrukan_lines(c: &Controller, size: usize) -> u32
+pub fn hevrukan_lines(c: &Controller, size: usize) -> u32
     ensures { result ≡ lines_answer c.now size }
 {
     if size != SIZE {
@@ -72,8 +69,7 @@ pub extern "C" fn hevrukan_lines(c: &Controller, size: usize) -> u32
 }
 
 // What buffer n holds, written over the first fourteen bytes of the room. Nothing of the record is changed.
-#[unsafe(no_mangle)]
-pub extern "C" fn hevrukan_buffer(c: &Controller, size: usize, n: u32, room: &mut [u8]) -> u32
+pub fn hevrukan_buffer(c: &Controller, size: usize, n: u32, room: &mut [u8]) -> u32
     ensures { buffer_effect c.now size n room.old ≡ record { answer = result; room = room.new } }
 {
     if size != SIZE {
@@ -83,8 +79,7 @@ pub extern "C" fn hevrukan_buffer(c: &Controller, size: usize, n: u32, room: &mu
 }
 
 // The same of the k-th frame that waits, 0 the oldest.
-#[unsafe(no_mangle)]
-pub extern "C" fn hevrukan_waiting(c: &Controller, size: usize, k: u32, room: &mut [u8]) -> u32
+pub fn hevrukan_waiting(c: &Controller, size: usize, k: u32, room: &mut [u8]) -> u32
     ensures { waiting_effect c.now size k room.old ≡ record { answer = result; room = room.new } }
 {
     if size != SIZE {

@@ -1,7 +1,9 @@
 // The step on a lent record, changed in place: one public function over what crate controller says that a call changes. Each kind of
 // step has a path of its own, so that none carries what another changes: a read writes nothing, and a call that touches no
 // buffer's bytes writes the control state alone.
-ghost use Rattle.std.specs.Prelude.{◌≡◌, ◌≤◌};
+#![tactic(auto)]
+
+ghost use Rattle.std.specs.Prelude.{◌≡◌, ◌≤◌, length};
 ghost use Rattle.rules.specs.Steps.Step.{frame as frame_step, write as write_step};
 ghost use Rattle.controller.specs.Session.{step_of};
 ghost use Rattle.controller.specs.Calls.{answered_of, step_for, room_for};
@@ -11,6 +13,14 @@ use contents::Contents;
 use controller::{Answered, Call, Change, Controller, changes, events, registers};
 use masks::NONE;
 
+// The record as it stands. A proof knows how many rows a value has, and not how many lie behind a reference whose rows nobody reads.
+fn whole(c: Controller) -> Controller
+    ensures same { result ≡ c }
+    ensures rows { length c.rows ≡ 16 }
+{
+    c
+}
+
 // The change carried out: the control state, and the one buffer or waiting place whose bytes change. The control state first: what the
 // compiler sees to be there already, since nothing was stored after it was read, is not written back.
 fn carry(c: &mut Controller, x: Change) -> Answered
@@ -19,10 +29,12 @@ fn carry(c: &mut Controller, x: Change) -> Answered
     c.control = x.control;
     if x.buffer < NONE {
         let n = x.buffer as usize;
-        c.rows[n] = Contents { bytes: x.bytes };
+        let bytes = x.bytes;
+        c.rows[n] = Contents { bytes };
     } else if x.place < 2 {
         let k = x.place as usize;
-        c.held[k] = Contents { bytes: x.bytes };
+        let bytes = x.bytes;
+        c.held[k] = Contents { bytes };
     }
     x.answered
 }
@@ -31,7 +43,7 @@ fn carry(c: &mut Controller, x: Change) -> Answered
 fn frame(c: &mut Controller, good: bool, f: &[u8]) -> Answered
     ensures { (c.new ≡ (step_of c.old (frame_step good f.now)).next) × (result ≡ answered_of (step_of c.old (frame_step good f.now))) }
 {
-    let r = events::frame_ruling(*c, good, f);
+    let r = events::frame_ruling(whole(*c), good, f);
     let x = events::frame_change(r, f);
     carry(c, x)
 }
@@ -62,8 +74,8 @@ fn write(c: &mut Controller, a: u8, v: u8) -> Answered
     ensures { (c.new ≡ (step_of c.old (write_step a v)).next) × (result ≡ answered_of (step_of c.old (write_step a v))) }
 {
     if a < 0x20 {
-        let d = c.control;
-        let x = registers::low_change(d, a, v);
+        let d = whole(*c);
+        let x = registers::low_change(d.control, a, v);
         carry(c, x)
     } else {
         reached(c, a, v)

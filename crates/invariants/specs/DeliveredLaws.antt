@@ -1,5 +1,5 @@
--- What a release comes to: of the frames that wait for a buffer the newest is left in it, its IFLG is set, and no place waits for it.
--- Places of frames for other buffers stay.
+-- What a release comes to: the bytes that it stores, IFLG of the buffer, and that no place waits for it. Places of frames for other
+-- buffers stay. (That the newest frame is left in the buffer is in proofs/DeliveredLaws.antt.)
 use Rattle.std.specs.Prelude.{◌≡◌, ℕ, zero, suc, ◌<◌, Bool, ◌||◌, List, [], ◌∷◌, ◌++◌, set, eqb}
 use Rattle.std.proofs.Math.Path.{refl}
 use Rattle.std.proofs.Common.{sym, ap, ◌∙◌, arith, eqb-true, ne_eqb}
@@ -26,11 +26,11 @@ use Rattle.invariants.specs.Newest.{is_waited_for, newest}
 
 module _ (e : Step) (n : ℕ) where
   -- the moves by the tests of the places: `swapped`, the first waits for n, the second does
-  moves : Bool → Bool → Bool → List Move
+  unfoldable pub moves : Bool → Bool → Bool → List Move
   moves s t u = pick s (pick u (release 1 n ∷ []) [] ++ pick t (release 0 n ∷ []) []) (pick t (release 0 n ∷ []) [] ++ pick u (release 1 n ∷ []) [])
 
   -- a stored frame leaves nothing of an older one (W4)
-  last-left : (held rows : List Contents) (s t u : Bool) → (t || u) ≡ true →
+  pub last-left : (held rows : List Contents) (s t u : Bool) → (t || u) ≡ true →
       move_all e held (moves s t u) rows ≡ set rows n (row_at held (pick s (pick t 0 1) (pick u 1 0)))
   unfolding moves pick move_all
   last-left held rows true true true w = set-set rows n (row_at held 1) (row_at held 0)
@@ -63,11 +63,6 @@ module _ (e : Step) (n : ℕ) where
   held-stay held false false false = refl
 
   module _ (c : Control) where
-    pub newest-left : (held rows : List Contents) → is_waited_for c.places n ≡ true →
-        move_all e held (deliveries c n) rows ≡ set rows n (row_at held (newest c.places n))
-    unfolding moves deliveries delivery
-    newest-left held rows = last-left held rows c.places.swapped (eqb c.places.first n) (eqb c.places.second n)
-
     pub rows_left : (held rows : List Contents) → is_waited_for c.places n ≡ false → move_all e held (deliveries c n) rows ≡ rows
     unfolding moves deliveries delivery
     rows_left held rows = none_left held rows c.places.swapped (eqb c.places.first n) (eqb c.places.second n)
@@ -90,7 +85,7 @@ put-twice m n =
 
 -- no place for n
 abbrev pub without : Places → ℕ → Places
-without p n = record { first = pick (eqb p.first n) none p.first; second = pick (eqb p.second n) none p.second; swapped = p.swapped; unused = p.unused }
+without p n = record { first = pick (eqb p.first n) none p.first; second = pick (eqb p.second n) none p.second; swapped = p.swapped }
 
 -- IFLG of n where a frame waited for it
 abbrev delivered_to : Control → ℕ → Control

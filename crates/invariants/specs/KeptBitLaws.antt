@@ -8,6 +8,7 @@ use Rattle.masks.specs.Pick.{pick}
 use Rattle.masks.specs.PickLaws.{pick-keeps, by-test}
 use Rattle.masks.specs.Bits.{bit_of, mask_of, put_bit, highest}
 use Rattle.masks.specs.Laws.{bit-none, bit_mask}
+use Rattle.rules.specs.declared.Fault.{Fault}
 use Rattle.rules.specs.declared.Fault.TheVariants.{Early, Lost, Illegal, Mismatch}
 use Rattle.rules.specs.declared.Control.{Control}
 use Rattle.rules.specs.Registers.{has, reset_control, IFLG, ABTRQ}
@@ -19,7 +20,7 @@ use Rattle.rules.specs.Bus.{synced, timed_out, faulted, raise_last, lookup, offe
 use Rattle.rules.specs.Plan.{head_at}
 use Rattle.controller.specs.View.{View}
 use Rattle.invariants.specs.Sound.{Sound, BitsSound, Idle}
-use Rattle.invariants.specs.KeptLaws.{Kept, prepared, reset_view}
+use Rattle.invariants.specs.KeptLaws.{at, Kept, prepared, reset_view}
 use Rattle.invariants.specs.TestLaws.{impossible, and_left, and_right}
 use Rattle.invariants.specs.BitLaws.{put_keeps}
 use Rattle.invariants.specs.ViewLaws.{found-receive, sent-armed}
@@ -214,7 +215,7 @@ module _ (w : View) (s : Sound w) where
         unlocks = λ n h f g. sound-of now;
         syncs = λ k i. sound-of now;
         times-out = sound-of now;
-        faults = λ k i. sound-of (elim k [ Early ↦ now | Lost ↦ now | Illegal ↦ now | Mismatch ↦ now ]);
+        faults = λ k i. sound-of (elim k as (λ (k : Fault). BitsOf (at w (faulted k w.control)).control) [ Early ↦ now | Lost ↦ now | Illegal ↦ now | Mismatch ↦ now ]);
         raises = λ b only i. sound-of now;
         passes = λ i t. sound-of now;
         overruns = λ i t. sound-of now;

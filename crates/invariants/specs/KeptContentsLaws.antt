@@ -1,8 +1,7 @@
--- Every rule keeps the lengths and identifiers of received frames: at most 12, and none in the FIFO with an identifier of a
--- receive buffer.
+-- Towards proofs/KeptContentsLaws.antt: what keeps the lengths and identifiers of received frames.
 use Rattle.std.specs.Prelude.{◌≡◌, ℕ, zero, suc, ◌<◌, ◌≤◌, Bool, false, ◌&&◌, ◌||◌, not, set, replicate, eqb, leb}
 use Rattle.std.proofs.Math.Path.{refl, sym}
-use Rattle.std.proofs.Common.{ap, ◌∙◌, subst, arith, ne_eqb, length-set}
+use Rattle.std.proofs.Common.{ap, ◌∙◌, arith, ne_eqb, length-set}
 use Rattle.std.proofs.Math.Bool.{true}
 use Rattle.masks.specs.PickLaws.{by-test}
 use Rattle.masks.specs.Bits.{bit_of, highest}
@@ -14,24 +13,20 @@ use Rattle.rules.specs.declared.Fault.{Fault}
 use Rattle.rules.specs.declared.Fault.TheVariants.{Early, Lost, Illegal, Mismatch}
 use Rattle.rules.specs.declared.Buffers.{Buffers}
 use Rattle.rules.specs.declared.Control.{Control}
-use Rattle.rules.specs.Record.{with_mode, with_config, with_events, with_fifo, with_receive, with_transmit, with_places, with_buffers, with_fsiz, with_slprq, with_last}
-use Rattle.rules.specs.Registers.{reset_control, OVRNIF}
+use Rattle.rules.specs.Record.{with_mode, with_fifo, with_buffers, with_last}
+use Rattle.rules.specs.Registers.{reset_control}
 use Rattle.rules.specs.Kinds.{is_transmit, is_receive, has_iflg}
-use Rattle.rules.specs.Waiting.{waits_for, stored_from, occupied}
-use Rattle.rules.specs.Flags.{write_risr, write_gisr}
-use Rattle.rules.specs.Modes.{leave, wake, cancel}
-use Rattle.rules.specs.Writes.{disarm, lock_fifo}
-use Rattle.locks.specs.Pair.{take_lock}
-use Rattle.rules.specs.Bus.{raise_gisr, synced, timed_out, faulted, lookup, raise_last, with_entry, offers, sent_from}
+use Rattle.rules.specs.Modes.{leave, wake}
+use Rattle.rules.specs.Bus.{synced, faulted, lookup, raise_last, with_entry, offers, sent_from}
 use Rattle.rules.specs.Plan.{head_at}
 use Rattle.controller.specs.View.{View}
 use Rattle.invariants.specs.Sound.{is_entry, ContentsSound, Sound}
-use Rattle.invariants.specs.KeptLaws.{at, put, rewritten, put_head, flagged, reset_view, Kept}
+use Rattle.invariants.specs.KeptLaws.{at, put_head, flagged, reset_view}
 use Rattle.invariants.specs.TestLaws.{or_cases}
-use Rattle.invariants.specs.ViewLaws.{head-cases, lawful-low, receive-kind, receive-high, found-receive, found-ident, unfound, sent-armed}
-use Rattle.invariants.specs.ControlWriteLaws.{Prepared, prepared-kind, prepared-by}
+use Rattle.invariants.specs.ViewLaws.{head-cases, lawful-low, receive-kind, receive-high, unfound, sent-armed}
+use Rattle.invariants.specs.ControlWriteLaws.{Prepared, prepared-kind}
 use Rattle.invariants.specs.EntryLaws.{entry-same, entry-none, entry-low, entry-queued, entry-kind}
-use Rattle.invariants.specs.ContentsLaws.{marks, idle-contents, less-contents, same-contents, enter-contents, flag-contents, held-contents, unlock-contents, put-contents}
+use Rattle.invariants.specs.ContentsLaws.{marks, idle-contents, less-contents, same-contents, flag-contents, put-contents}
 
 module _ (w : View) (s : Sound w) where
   abbrev c : Control
@@ -40,7 +35,7 @@ module _ (w : View) (s : Sound w) where
   -- ---- by kind and mode
 
   -- in initialization there is no IFLG and no entry
-  init-contents : (x : Control) → c.mode.init ≡ true → x.fifo ≡ c.fifo → x.buffers.iflg ≡ c.buffers.iflg → ContentsSound (at w x)
+  pub init-contents : (x : Control) → c.mode.init ≡ true → x.fifo ≡ c.fifo → x.buffers.iflg ≡ c.buffers.iflg → ContentsSound (at w x)
   init-contents x i q f =
       let idle = s.modes.idle i in
       idle-contents (at w x) (f ∙ idle.iflg) (q ∙ idle.fifo) s.contents.sixteen s.contents.length-le
@@ -53,7 +48,7 @@ module _ (w : View) (s : Sound w) where
       (λ i. never_both (is_transmit c m) t (lawful-low c m (s.modes.lawful i) s.fifo.size-le (entry-low c m e)))
 
   -- the head of a transmit buffer
-  sent-head : (p : ℕ) (h : Head) → p < 16 → is_transmit c p ≡ true → h.len ≤ 15 → ContentsSound (record { control = c; heads = set w.heads p h; held = w.held })
+  pub sent-head : (p : ℕ) (h : Head) → p < 16 → is_transmit c p ≡ true → h.len ≤ 15 → ContentsSound (record { control = c; heads = set w.heads p h; held = w.held })
   sent-head p h b kind l =
       put-contents w c p h s.contents b
       (record {
@@ -68,7 +63,7 @@ module _ (w : View) (s : Sound w) where
       })
 
   -- the head of a receive buffer, in initialization
-  init-head : (p : ℕ) (h : Head) → p < 16 → c.mode.init ≡ true → h.len ≤ 15 → ContentsSound (record { control = c; heads = set w.heads p h; held = w.held })
+  pub init-head : (p : ℕ) (h : Head) → p < 16 → c.mode.init ≡ true → h.len ≤ 15 → ContentsSound (record { control = c; heads = set w.heads p h; held = w.held })
   init-head p h b i l =
       let idle = s.modes.idle i in
       idle-contents (record { control = c; heads = set w.heads p h; held = w.held }) idle.iflg idle.fifo
@@ -78,7 +73,7 @@ module _ (w : View) (s : Sound w) where
   -- ---- $00
 
   -- leaving initialization sets IFLG of transmit buffers alone
-  leaves-contents : ContentsSound (at w (leave c))
+  pub leaves-contents : ContentsSound (at w (leave c))
   unfolding leave
   leaves-contents =
       let x = leave c in
@@ -89,14 +84,14 @@ module _ (w : View) (s : Sound w) where
       flagged-before : (n : ℕ) → is_receive c n ≡ true → (is_transmit c n || has_iflg c n) ≡ true → has_iflg c n ≡ true
       flagged-before n r f = or_cases (is_transmit c n) (has_iflg c n) f (λ t. absurd (never_both (is_transmit c n) t (receive-kind c n r))) (λ t. t)
 
-  wakes-contents : (x : Control) → marks x ≡ marks c → ContentsSound (at w (wake x))
+  pub wakes-contents : (x : Control) → marks x ≡ marks c → ContentsSound (at w (wake x))
   unfolding wake
   wakes-contents x e = same-contents w s.contents (wake x) e
 
   -- ---- $50 to $5F
 
   -- CFG changes only in initialization, IFLG is new only on a transmit buffer
-  prepared-contents : (n v : ℕ) (b : Buffers) → Prepared c n v b → ContentsSound (at w (with_buffers c b))
+  pub prepared-contents : (n v : ℕ) (b : Buffers) → Prepared c n v b → ContentsSound (at w (with_buffers c b))
   prepared-contents n v b p =
       by-test c.mode.init
       (λ i. init-contents (with_buffers c b) i refl (p.init-iflg i))
@@ -109,23 +104,23 @@ module _ (w : View) (s : Sound w) where
 
   -- ---- the bus
 
-  syncs-contents : (k : SyncKind) → ContentsSound (at w (synced k c w.heads))
+  pub syncs-contents : (k : SyncKind) → ContentsSound (at w (synced k c w.heads))
   unfolding synced
   syncs-contents k = same-contents w s.contents (synced k c w.heads) refl
 
-  faults-contents : (k : Fault) → ContentsSound (at w (faulted k c))
+  pub faults-contents : (k : Fault) → ContentsSound (at w (faulted k c))
   unfolding faulted
   faults-contents Early = same-contents w s.contents (faulted Early c) refl
   faults-contents Lost = same-contents w s.contents (faulted Lost c) refl
   faults-contents Illegal = same-contents w s.contents (faulted Illegal c) refl
   faults-contents Mismatch = same-contents w s.contents (faulted Mismatch c) refl
 
-  passes-contents : (i : ℕ) → ContentsSound (at w (raise_last c i))
+  pub passes-contents : (i : ℕ) → ContentsSound (at w (raise_last c i))
   unfolding raise_last
   passes-contents i = same-contents w s.contents (raise_last c i) refl
 
   -- a frame with the head h stored in a receive buffer p, which has its identifier already
-  stored-contents : (p : ℕ) (h : Head) → p < 16 → is_receive c p ≡ true → (head_at w.heads p).ident ≡ h.ident → h.len ≤ 12 →
+  pub stored-contents : (p : ℕ) (h : Head) → p < 16 → is_receive c p ≡ true → (head_at w.heads p).ident ≡ h.ident → h.len ≤ 12 →
       ContentsSound (record { control = flagged c p; heads = set w.heads p h; held = w.held })
   stored-contents p h b kind named short =
       let x = flagged c p in
@@ -143,30 +138,8 @@ module _ (w : View) (s : Sound w) where
             ap (λ (x : ℕ). eqb x (head_at w.heads m).ident) (sym named) ∙ s.contents.entry-unmatched m p (entry m e) b kind;
       })
 
-  stores-contents : (i l : ℕ) → lookup c w.heads i < 16 →
-      ContentsSound (put w (flagged (raise_last c i) (lookup c w.heads i)) (lookup c w.heads i) i (cut l))
-  unfolding raise_last
-  stores-contents i l b =
-      let p = lookup c w.heads i in
-      same-contents (put w (flagged c p) p i (cut l))
-      (stored-contents p (record { ident = i; len = cut l }) b (found-receive c w.heads i b) (found-ident c w.heads i b) (omega arith))
-      (flagged (raise_last c i) p) refl
-
-  -- a frame that waited
-  delivers-contents : (k n : ℕ) → k < 2 → n < 16 → waits_for c.places k ≡ n →
-      ContentsSound (put w (stored_from c k n) n (head_at w.held k).ident (head_at w.held k).len)
-  delivers-contents k n b h e =
-      let i = (head_at w.held k).ident in
-      let q = s.places.waiting k b (omega arith) in
-      let l = q.lowest-named in
-      let f : lookup c w.heads i < 16 = omega arith in
-      let kind : is_receive c n ≡ true = subst (λ (m : ℕ). is_receive c m ≡ true) (l ∙ e) (found-receive c w.heads i f) in
-      let named : (head_at w.heads n).ident ≡ i = subst (λ (m : ℕ). (head_at w.heads m).ident ≡ i) (l ∙ e) (found-ident c w.heads i f) in
-      same-contents (put w (flagged c n) n i (head_at w.held k).len)
-      (stored-contents n (head_at w.held k) h kind named q.short) (stored_from c k n) refl
-
   -- the new entry stands in the next place, which is below FSIZ
-  queues-contents : (i l : ℕ) → 16 ≤ lookup c w.heads i → c.fifo.count < c.config.fsiz →
+  pub queues-contents : (i l : ℕ) → 16 ≤ lookup c w.heads i → c.fifo.count < c.config.fsiz →
       ContentsSound (record { control = with_fifo (raise_last c i) (with_entry c); heads = put_head w c.fifo.next i (cut l); held = w.held })
   unfolding raise_last
   queues-contents i l none room =
@@ -188,53 +161,12 @@ module _ (w : View) (s : Sound w) where
       })
 
   -- a buffer that is sent is armed, hence a transmit buffer
-  sends-contents : (i n : ℕ) → n ≡ highest (offers c w.heads i) 16 → n < 16 → ContentsSound (at w (with_mode (sent_from c n) (with_last c.mode i)))
+  pub sends-contents : (i n : ℕ) → n ≡ highest (offers c w.heads i) 16 → n < 16 → ContentsSound (at w (with_mode (sent_from c n) (with_last c.mode i)))
   sends-contents i n e b =
       let armed = sent-armed c w.heads i n e b in
       same-contents (at w (flagged c n)) (flag-contents w s.contents n (s.arming.armed n b armed).transmit)
       (with_mode (sent_from c n) (with_last c.mode i)) refl
-
   -- ---- every rule
-
-  pub contents-kept : Kept ContentsSound w
-  unfolding cancel timed_out raise_last
-  contents-kept =
-      let hs = w.heads in
-      let p = c.transmit.holder in
-      let r = c.receive.holder in
-      let same : (d : Control) → marks d ≡ marks c → ContentsSound (at w d) = same-contents w s.contents in
-      record {
-        rewrites = λ v. same (rewritten c v) refl;
-        leaves = λ i h. leaves-contents;
-        enters = enter-contents w s.contents c;
-        sleeps = λ i. same (with_mode c (with_slprq c.mode true)) refl;
-        cancels = same (cancel c) refl;
-        wakes = λ i. wakes-contents c refl;
-        resizes = λ f i h m. init-contents (with_config c (with_fsiz c.config f)) i refl refl;
-        configures = λ g e only. same (with_config c g) (ap (λ (f : ℕ). marks (with_config c (with_fsiz c.config f))) e);
-        clears-risr = λ v. same (with_events c (write_risr c.events v)) refl;
-        clears-gisr = λ v. same (with_events c (write_gisr c.mode.synced c.events v)) refl;
-        sends-ident = λ v h. sent-head p (record { ident = v; len = (head_at hs p).len }) h (s.locks.transmit.holder-kind h) (s.contents.length-le p);
-        sends-length = λ l b h. sent-head p (record { ident = (head_at hs p).ident; len = l }) h (s.locks.transmit.holder-kind h) b;
-        takes-ident = λ v i h. init-head r (record { ident = v; len = (head_at hs r).len }) h i (s.contents.length-le r);
-        takes-length = λ l b i h. init-head r (record { ident = (head_at hs r).ident; len = l }) h i b;
-        prepares = λ n v h m. prepared-by (λ (x : Control). ContentsSound (at w x)) c n v (λ b q. prepared-contents n v b q);
-        locks-transmit = λ n h u t. same (with_transmit (disarm c n) (take_lock c.transmit n)) refl;
-        locks-receive = λ n h u t k o. same (with_receive c (take_lock c.receive n)) refl;
-        locks-fifo = λ n h t o e. same (with_fifo c (lock_fifo c.fifo)) refl;
-        delivers = delivers-contents;
-        unlocks = λ n h f g. unlock-contents w s.contents n s.fifo.oldest-lt s.fifo.count-le;
-        syncs = λ k i. syncs-contents k;
-        times-out = same (timed_out c) refl;
-        faults = λ k i. faults-contents k;
-        raises = λ b only i. same (raise_gisr c b) refl;
-        passes = λ i o. passes-contents i;
-        overruns = λ i o. same (raise_gisr (raise_last c i) OVRNIF) refl;
-        holds = λ i l k o b u z f. held-contents _ (same (with_places (raise_last c i) (occupied c.places k (lookup c hs i))) refl) _;
-        stores = λ i l o y b u. stores-contents i l b;
-        queues = λ i l o y z n room. queues-contents i l n room;
-        sends = λ i n o e b. sends-contents i n e b;
-      }
 
 -- blank heads have length 0
 no_length : (k n : ℕ) → (head_at (replicate k no_head) n).len ≡ 0

@@ -3,6 +3,7 @@
 use Rattle.std.specs.Prelude.{◌≡◌, refl, ℕ, ◌+◌, ◌-◌, ◌<◌, ◌≤◌, false, ◌&&◌, eqb, ltb}
 use Rattle.std.proofs.Common.{sym, subst, arith, ltb-true, ltb-false}
 use Rattle.masks.specs.PickLaws.{pick-keeps, by-test}
+use Rattle.rules.specs.declared.Fault.{Fault}
 use Rattle.rules.specs.declared.Fault.TheVariants.{Early, Lost, Illegal, Mismatch}
 use Rattle.rules.specs.declared.Fifo.{Fifo}
 use Rattle.rules.specs.declared.Control.{Control}
@@ -152,7 +153,7 @@ fifo-kept w s =
       unlocks = λ n h f g. release-ring c n r;
       syncs = λ k i. r;
       times-out = r;
-      faults = λ k i. elim k [ Early ↦ r | Lost ↦ r | Illegal ↦ r | Mismatch ↦ r ];
+      faults = λ k i. elim k as (λ (k : Fault). FifoSound (at w (faulted k w.control))) [ Early ↦ r | Lost ↦ r | Illegal ↦ r | Mismatch ↦ r ];
       raises = λ b only i. r;
       passes = λ i e. r;
       overruns = λ i e. r;

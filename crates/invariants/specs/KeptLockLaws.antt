@@ -1,4 +1,4 @@
--- Every rule keeps the locks sound: it leaves them, or takes or releases one, and the kind of a locked buffer stays.
+-- Towards proofs/KeptLockLaws.antt: what leaves the locks sound, takes or releases one, and that the kind of a locked buffer stays.
 use Rattle.std.specs.Prelude.{◌≡◌, refl, ℕ, ◌<◌, ◌≤◌, Bool, true, false, ◌&&◌, not, List, eqb, ltb, leb}
 use Rattle.std.proofs.Common.{sym, ap, ◌∙◌, subst, arith}
 use borrow.Author.Tests.{eqb-false, ltb-true, ltb-false, eq-eqb, le-ltb, le-leb}
@@ -8,24 +8,22 @@ use Rattle.masks.specs.SearchLaws.{some-false}
 use Rattle.locks.specs.declared.Locks.{Locks}
 use Rattle.locks.specs.Pair.{none, no_locks, has_holder, in_pair, take_lock, release_lock}
 use Rattle.contents.specs.Bytes.{Head}
-use Rattle.rules.specs.declared.Fault.TheVariants.{Early, Lost, Illegal, Mismatch}
 use Rattle.rules.specs.declared.Buffers.{Buffers}
 use Rattle.rules.specs.declared.Control.{Control}
 use Rattle.rules.specs.Record.{with_config, with_buffers, with_fsiz}
 use Rattle.rules.specs.Registers.{reset_control}
 use Rattle.rules.specs.Kinds.{is_transmit, is_receive, is_locked}
-use Rattle.rules.specs.Modes.{enter, leave, wake, cancel}
-use Rattle.rules.specs.Writes.{cfg_after, release_all}
-use Rattle.rules.specs.Bus.{synced, timed_out, faulted, raise_last}
+use Rattle.rules.specs.Modes.{enter}
+use Rattle.rules.specs.Writes.{cfg_after}
 use Rattle.rules.specs.Refusals.{moved_by_fsiz, moved_by_cfg}
 use Rattle.controller.specs.View.{View}
-use Rattle.invariants.specs.Sound.{PairSound, LocksSound, Sound}
-use Rattle.invariants.specs.KeptLaws.{Kept, at, reset_view}
+use Rattle.invariants.specs.Sound.{PairSound, LocksSound}
+use Rattle.invariants.specs.KeptLaws.{at, reset_view}
 use Rattle.invariants.specs.TestLaws.{and_left, and_both, and-rest, or_left, or-by-left, or-by-right, beq_same}
 use Rattle.invariants.specs.BitLaws.{put_keeps}
 use Rattle.invariants.specs.ViewLaws.{receive-high}
-use Rattle.invariants.specs.LockLaws.{receive-locked, transmit-locked, unlocked-parts}
-use Rattle.invariants.specs.ControlWriteLaws.{Prepared, prepared-by}
+use Rattle.invariants.specs.LockLaws.{receive-locked, transmit-locked}
+use Rattle.invariants.specs.ControlWriteLaws.{Prepared}
 
 -- ---- a pair of locks
 
@@ -43,7 +41,7 @@ alone-sound kind m b k =
 
 module _ (kind : ℕ → Bool) (l : Locks) (n : ℕ) (s : PairSound kind l) where
   -- a buffer of the kind that isn't locked may become holder or contender
-  take-sound : n < 16 → kind n ≡ true → in_pair l n ≡ false → PairSound kind (take_lock l n)
+  pub take-sound : n < 16 → kind n ≡ true → in_pair l n ≡ false → PairSound kind (take_lock l n)
   unfolding take_lock in_pair
   take-sound h k free = pick-keeps (PairSound kind) (has_holder l)
       (λ t. record {
@@ -64,7 +62,7 @@ module _ (kind : ℕ → Bool) (l : Locks) (n : ℕ) (s : PairSound kind l) wher
       })
 
   -- a released holder's contender becomes holder
-  release-sound : PairSound kind (release_lock l n)
+  pub release-sound : PairSound kind (release_lock l n)
   unfolding release_lock
   release-sound = pick-keeps (PairSound kind) (eqb n l.holder)
       (λ t. alone-sound kind l.contender s.contender-le s.contender-kind)
@@ -92,7 +90,7 @@ kinds-stay kind after l stay s =
 -- ---- both pairs
 
 -- the pairs alone make a view's locks sound, whatever its other parts
-locks-by : {c : Control} {hs ps : List Head} → PairSound (is_receive c) c.receive → PairSound (is_transmit c) c.transmit →
+pub locks-by : {c : Control} {hs ps : List Head} → PairSound (is_receive c) c.receive → PairSound (is_transmit c) c.transmit →
     LocksSound (record { control = c; heads = hs; held = ps })
 locks-by r t = record { receive = r; transmit = t }
 
@@ -110,7 +108,7 @@ receive-stays c size m unmoved k e =
     (and-rest (is_locked c m && not (is_transmit c m)) _ unmoved (and_both (is_locked c m) _ k plain)) in
     and_both (not (is_transmit c m)) _ plain (le-leb size m (ltb-false m size (place ∙ le-ltb m c.config.fsiz above)))
 
-resize-keeps : (w : View) (size : ℕ) → some_of (moved_by_fsiz w.control size) 16 ≡ false → LocksSound w →
+pub resize-keeps : (w : View) (size : ℕ) → some_of (moved_by_fsiz w.control size) 16 ≡ false → LocksSound w →
     LocksSound (at w (with_config w.control (with_fsiz w.control.config size)))
 resize-keeps w size still s =
     let c = w.control in
@@ -131,7 +129,7 @@ locked-kind c n v b p unmoved m h k =
     (λ e. beq_same (cfg_after c n v) (is_transmit c n) (and-rest (is_locked c n) _ unmoved (subst (λ (i : ℕ). is_locked c i ≡ true) e k)) ∙ ap (is_transmit c) (sym e))
     (λ d. refl)
 
-prepared-locks : (w : View) (n v : ℕ) (b : Buffers) → Prepared w.control n v b → moved_by_cfg w.control n v ≡ false → LocksSound w →
+pub prepared-locks : (w : View) (n v : ℕ) (b : Buffers) → Prepared w.control n v b → moved_by_cfg w.control n v ≡ false → LocksSound w →
     LocksSound (at w (with_buffers w.control b))
 prepared-locks w n v b p unmoved s =
     let c = w.control in
@@ -141,51 +139,11 @@ prepared-locks w n v b p unmoved s =
     (λ m h i e. ap (λ (t : Bool). not t && leb c.config.fsiz m) (stays m h (receive-locked c m i)) ∙ e) s.receive)
     (kinds-stay (is_transmit c) _ c.transmit (λ m h i e. stays m h (transmit-locked c m i) ∙ e) s.transmit)
 
-enter-locks : (w : View) (c : Control) → LocksSound (at w c) → LocksSound (at w (enter c))
+pub enter-locks : (w : View) (c : Control) → LocksSound (at w c) → LocksSound (at w (enter c))
 unfolding enter
 enter-locks w c s = locks-by s.receive s.transmit
 
--- ---- every rule
-
-pub locks-kept : (w : View) → Sound w → Kept LocksSound w
-unfolding leave wake cancel synced timed_out faulted raise_last release_all
-locks-kept w s =
-    let c = w.control in
-    let r = s.locks.receive in
-    let t = s.locks.transmit in
-    record {
-      rewrites = λ v. locks-by r t;
-      leaves = λ i e. locks-by r t;
-      enters = enter-locks w _ (locks-by r t);
-      sleeps = λ i. locks-by r t;
-      cancels = locks-by r t;
-      wakes = λ i. locks-by r t;
-      resizes = λ size i b still. resize-keeps w size still s.locks;
-      configures = λ g e only.
-          locks-by (subst (λ (size : ℕ). PairSound (λ n. not (is_transmit c n) && leb size n) c.receive) (sym e) r) t;
-      clears-risr = λ v. locks-by r t;
-      clears-gisr = λ v. locks-by r t;
-      sends-ident = λ v h. locks-by r t;
-      sends-length = λ l b h. locks-by r t;
-      takes-ident = λ v i h. locks-by r t;
-      takes-length = λ l b i h. locks-by r t;
-      prepares = λ n v h unmoved. prepared-by (λ (x : Control). LocksSound (at w x)) c n v (λ b p. prepared-locks w n v b p unmoved s.locks);
-      locks-transmit = λ n h u k. locks-by r (take-sound (is_transmit c) c.transmit n t h k (unlocked-parts c n u).transmit);
-      locks-receive = λ n h u k q o. locks-by (take-sound (is_receive c) c.receive n r h q (unlocked-parts c n u).receive) t;
-      locks-fifo = λ n h k o e. locks-by r t;
-      delivers = λ k n b h e. locks-by r t;
-      unlocks = λ n h f g. locks-by (release-sound (is_receive c) c.receive n r) (release-sound (is_transmit c) c.transmit n t);
-      syncs = λ k i. locks-by r t;
-      times-out = locks-by r t;
-      faults = λ k i. elim k [ Early ↦ locks-by r t | Lost ↦ locks-by r t | Illegal ↦ locks-by r t | Mismatch ↦ locks-by r t ];
-      raises = λ b only i. locks-by r t;
-      passes = λ i e. locks-by r t;
-      overruns = λ i e. locks-by r t;
-      holds = λ i l k e h z b f. locks-by r t;
-      stores = λ i l e f h k. locks-by r t;
-      queues = λ i l e f z m h. locks-by r t;
-      sends = λ i n e f h. locks-by r t;
-    }
+-- ---- reset
 
 pub locks-reset : LocksSound reset_view
 unfolding reset_control

@@ -1,4 +1,5 @@
--- Every rule keeps that a waiting frame is for a locked dedicated receive buffer, the lowest with its identifier, and short.
+-- Towards proofs/KeptPlaceLaws.antt: what keeps that a waiting frame is for a locked dedicated receive buffer, the lowest with its
+-- identifier, and short.
 use Rattle.std.specs.Prelude.{◌≡◌, Bool, ◌&&◌, ◌||◌, not, List, length}
 use Rattle.std.proofs.Math.Path.{refl, sym, ap, subst}
 use Rattle.std.proofs.Common.{◌∙◌, arith}
@@ -14,24 +15,22 @@ use Rattle.masks.specs.SearchLaws.{never_both, lowest-ext}
 use Rattle.locks.specs.declared.Locks.{Locks}
 use Rattle.locks.specs.Pair.{has_holder, is_full, in_pair, take_lock, release_lock}
 use Rattle.contents.specs.Bytes.{Head, no_head, cut}
-use Rattle.rules.specs.declared.Fault.TheVariants.{Early, Lost, Illegal, Mismatch}
 use Rattle.rules.specs.declared.Places.{Places}
 use Rattle.rules.specs.declared.Buffers.{Buffers}
 use Rattle.rules.specs.declared.Control.{Control}
-use Rattle.rules.specs.Record.{with_config, with_fifo, with_receive, with_places, with_buffers, with_fsiz}
+use Rattle.rules.specs.Record.{with_fifo, with_receive, with_places, with_buffers}
 use Rattle.rules.specs.Registers.{reset_control, no_places}
 use Rattle.rules.specs.Kinds.{is_transmit, is_receive, is_locked}
 use Rattle.rules.specs.Waiting.{waits_for, freed, stored_from, occupied}
-use Rattle.rules.specs.Modes.{enter, leave, wake, cancel}
 use Rattle.rules.specs.Writes.{release_all}
-use Rattle.rules.specs.Bus.{synced, timed_out, faulted, receives, lookup, raise_last, with_entry}
+use Rattle.rules.specs.Bus.{receives, lookup, raise_last, with_entry}
 use Rattle.rules.specs.Plan.{head_at}
 use Rattle.controller.specs.View.{View}
 use Rattle.invariants.specs.Sound.{Waits, PlacesSound, Sound}
-use Rattle.invariants.specs.KeptLaws.{at, put, flagged, reset_view, Kept}
+use Rattle.invariants.specs.KeptLaws.{at, put, flagged, reset_view}
 use Rattle.invariants.specs.TestLaws.{and_left, and_right, and-rest, or_cases, or-by-left, or-by-right}
 use Rattle.invariants.specs.ViewLaws.{head-other, head-cases, receive-kind, receive-high, found-receive, found-ident}
-use Rattle.invariants.specs.ControlWriteLaws.{Prepared, prepared-kind, prepared-by}
+use Rattle.invariants.specs.ControlWriteLaws.{Prepared, prepared-kind}
 
 -- ---- locks
 
@@ -63,17 +62,17 @@ module _ (l : Locks) (n m : ℕ) (held : in_pair l m ≡ true) where
 -- ---- what isn't changed
 
 -- what of a control state the waiting frames depend on
-record Grounds : Type 0 where
-  places : Places
-  receive : Locks
-  fsiz : ℕ
-  cfg : ℕ
+pub record Grounds : Type 0 where
+  pub places : Places
+  pub receive : Locks
+  pub fsiz : ℕ
+  pub cfg : ℕ
 
-abbrev grounds : Control → Grounds
+abbrev pub grounds : Control → Grounds
 grounds c = record { places = c.places; receive = c.receive; fsiz = c.config.fsiz; cfg = c.buffers.cfg }
 
 -- no frame waits
-none-waits : (x : View) → x.control.places ≡ no_places → length x.held ≡ 2 → PlacesSound x
+pub none-waits : (x : View) → x.control.places ≡ no_places → length x.held ≡ 2 → PlacesSound x
 none-waits x e l =
     record {
       two = l;
@@ -85,7 +84,7 @@ none-waits x e l =
     free (suc k) h = omega arith
 
 module _ (w : View) (s : PlacesSound w) where
-  abbrev c : Control
+  abbrev pub c : Control
   c = w.control
 
   -- the same receive buffers by identifier, and the locks of those that frames wait for
@@ -110,7 +109,7 @@ module _ (w : View) (s : PlacesSound w) where
             (λ h. let q = s.waiting k b h in still-waits d hs w.held _ _ same (lock k b h q.locked) q);
       }
 
-  same-places : (d : Control) → grounds d ≡ grounds c → PlacesSound (at w d)
+  pub same-places : (d : Control) → grounds d ≡ grounds c → PlacesSound (at w d)
   unfolding receives
   same-places d e =
       still-places d w.heads (ap (λ (g : Grounds). g.places) e)
@@ -157,7 +156,7 @@ module _ (w : View) (s : Sound w) where
   d = w.control
 
   -- in initialization no frame waits
-  init-places : (x : Control) (hs : List Head) → d.mode.init ≡ true → x.places ≡ d.places → PlacesSound (record { control = x; heads = hs; held = w.held })
+  pub init-places : (x : Control) (hs : List Head) → d.mode.init ≡ true → x.places ≡ d.places → PlacesSound (record { control = x; heads = hs; held = w.held })
   init-places x hs i e = none-waits (record { control = x; heads = hs; held = w.held }) (e ∙ (s.modes.idle i).places) s.places.two
 
   -- a locked receive buffer is holder or contender
@@ -192,7 +191,7 @@ module _ (w : View) (s : Sound w) where
 
   -- ---- $50 to $5F
 
-  prepared-places : (n v : ℕ) (b : Buffers) → Prepared d n v b → PlacesSound (at w (with_buffers d b))
+  pub prepared-places : (n v : ℕ) (b : Buffers) → Prepared d n v b → PlacesSound (at w (with_buffers d b))
   unfolding receives
   prepared-places n v b p =
       by-test d.mode.init (λ i. init-places (with_buffers d b) w.heads i refl)
@@ -200,13 +199,13 @@ module _ (w : View) (s : Sound w) where
       (λ j m l. ap (λ (t : Bool). (not t && leb d.config.fsiz m) && eqb (head_at w.heads m).ident j) (prepared-kind d n v b p i m l))
       (λ k l h t. t))
 
-  locks-places : (n : ℕ) → is_full d.receive ≡ false → PlacesSound (at w (with_receive d (take_lock d.receive n)))
+  pub locks-places : (n : ℕ) → is_full d.receive ≡ false → PlacesSound (at w (with_receive d (take_lock d.receive n)))
   unfolding receives
   locks-places n room =
       still-places w s.places (with_receive d (take_lock d.receive n)) w.heads refl (λ i m b. refl)
       (λ k b h t. take-holds d.receive n (waits_for d.places k) t room h s.locks.receive.contender-held)
 
-  unlocks-places : (n : ℕ) → (d.places.first ≡ n → ⊥) → (d.places.second ≡ n → ⊥) → PlacesSound (at w (release_all d n))
+  pub unlocks-places : (n : ℕ) → (d.places.first ≡ n → ⊥) → (d.places.second ≡ n → ⊥) → PlacesSound (at w (release_all d n))
   unfolding receives release_all
   unlocks-places n f g =
       still-places w s.places (release_all d n) w.heads refl (λ i m b. refl)
@@ -221,7 +220,7 @@ module _ (w : View) (s : Sound w) where
   unfolding receives
   stored_same k n g h e i m l = same-ident d w.heads n g s.contents.sixteen h e i m
 
-  delivers-places : (k n : ℕ) → k < 2 → n < 16 → waits_for d.places k ≡ n →
+  pub delivers-places : (k n : ℕ) → k < 2 → n < 16 → waits_for d.places k ≡ n →
       PlacesSound (put w (stored_from d k n) n (head_at w.held k).ident (head_at w.held k).len)
   delivers-places k n b h e =
       let i = (head_at w.held k).ident in
@@ -250,7 +249,7 @@ module _ (w : View) (s : Sound w) where
   unfolding lookup
   held-lookup i k = lowest-ext _ _ 0 16 refl (held_same i k i)
 
-  holds-places : (i l k : ℕ) → lookup d w.heads i < 16 → is_locked d (lookup d w.heads i) ≡ true → k < 2 →
+  pub holds-places : (i l k : ℕ) → lookup d w.heads i < 16 → is_locked d (lookup d w.heads i) ≡ true → k < 2 →
       PlacesSound (record {
         control = with_places (raise_last d i) (occupied d.places k (lookup d w.heads i));
         heads = w.heads;
@@ -275,7 +274,7 @@ module _ (w : View) (s : Sound w) where
             (let o = s.places.waiting j u h in still-waits w s.places _ w.heads _ _ _ (held_same i k) o.locked o));
       }
 
-  stores-places : (i l : ℕ) → lookup d w.heads i < 16 →
+  pub stores-places : (i l : ℕ) → lookup d w.heads i < 16 →
       PlacesSound (put w (flagged (raise_last d i) (lookup d w.heads i)) (lookup d w.heads i) i (cut l))
   unfolding receives raise_last
   stores-places i l b =
@@ -284,7 +283,7 @@ module _ (w : View) (s : Sound w) where
       (λ j m h. same-ident d w.heads n (record { ident = i; len = cut l }) s.contents.sixteen b (found-ident d w.heads i b) j m)
       (λ k a h t. t)
 
-  queues-places : (i l : ℕ) → d.fifo.count < d.config.fsiz →
+  pub queues-places : (i l : ℕ) → d.fifo.count < d.config.fsiz →
       PlacesSound (put w (with_fifo (raise_last d i) (with_entry d)) d.fifo.next i (cut l))
   unfolding receives raise_last
   queues-places i l room =
@@ -293,50 +292,11 @@ module _ (w : View) (s : Sound w) where
       (λ k a h t. t)
 
   -- a head of the transmit window's holder
-  sends-places : (h : Head) → d.transmit.holder < 16 → PlacesSound (record { control = d; heads = set w.heads d.transmit.holder h; held = w.held })
+  pub sends-places : (h : Head) → d.transmit.holder < 16 → PlacesSound (record { control = d; heads = set w.heads d.transmit.holder h; held = w.held })
   sends-places h b =
       still-places w s.places d (set w.heads d.transmit.holder h) refl
       (λ j m l. other-kind d w.heads d.transmit.holder h (sends-kind b) j m) (λ k a t q. q)
-
   -- ---- every rule
-
-  pub places-kept : Kept PlacesSound w
-  unfolding leave enter wake cancel synced timed_out faulted raise_last
-  places-kept =
-      let hs = w.heads in
-      let same : (x : Control) → grounds x ≡ grounds d → PlacesSound (at w x) = same-places w s.places in
-      record {
-        rewrites = λ v. same _ refl;
-        leaves = λ i h. same _ refl;
-        enters = none-waits _ refl s.places.two;
-        sleeps = λ i. same _ refl;
-        cancels = same _ refl;
-        wakes = λ i. same _ refl;
-        resizes = λ f i h m. init-places _ hs i refl;
-        configures = λ g e only. same (with_config d g) (ap (λ (f : ℕ). grounds (with_config d (with_fsiz d.config f))) e);
-        clears-risr = λ v. same _ refl;
-        clears-gisr = λ v. same _ refl;
-        sends-ident = λ v h. sends-places _ h;
-        sends-length = λ l b h. sends-places _ h;
-        takes-ident = λ v i h. init-places d _ i refl;
-        takes-length = λ l b i h. init-places d _ i refl;
-        prepares = λ n v h m. prepared-by (λ (x : Control). PlacesSound (at w x)) d n v (prepared-places n v);
-        locks-transmit = λ n h u t. same _ refl;
-        locks-receive = λ n h u t r o. locks-places n o;
-        locks-fifo = λ n h t o e. same _ refl;
-        delivers = delivers-places;
-        unlocks = λ n h f g. unlocks-places n f g;
-        syncs = λ k i. same _ refl;
-        times-out = same _ refl;
-        faults = λ k i. elim k [ Early ↦ same _ refl | Lost ↦ same _ refl | Illegal ↦ same _ refl | Mismatch ↦ same _ refl ];
-        raises = λ b only i. same _ refl;
-        passes = λ i o. same _ refl;
-        overruns = λ i o. same _ refl;
-        holds = λ i l k o b t a f. holds-places i l k b t a;
-        stores = λ i l o y b u. stores-places i l b;
-        queues = λ i l o y z n room. queues-places i l room;
-        sends = λ i n o e b. same _ refl;
-      }
 
 pub places-reset : PlacesSound reset_view
 unfolding reset_control

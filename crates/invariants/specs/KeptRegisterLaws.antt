@@ -1,5 +1,4 @@
--- Every rule keeps the bits that registers have: no other event flags and enables than document 01's, and sixteen bits of CFG
--- and IENA.
+-- Towards proofs/KeptRegisterLaws.antt: what keeps the bits that registers have.
 use Rattle.std.proofs.Math.Path.{refl}
 use Rattle.std.specs.Prelude.{ℕ, ◌-◌, Bool}
 use Rattle.std.proofs.Common.{arith}
@@ -13,18 +12,17 @@ use Rattle.rules.specs.declared.Fault.TheVariants.{Early, Lost, Illegal, Mismatc
 use Rattle.rules.specs.declared.Events.{Events}
 use Rattle.rules.specs.declared.Config.{Config}
 use Rattle.rules.specs.declared.Buffers.{Buffers}
-use Rattle.rules.specs.declared.Control.{Control}
 use Rattle.rules.specs.Record.{with_config, with_buffers}
-use Rattle.rules.specs.Registers.{has, reset_control, IENA, SLMMIF, XSYNIF, OVRNIF, SYNEIF, SYNLIF, ILLPIF}
+use Rattle.rules.specs.Registers.{has, reset_control, IENA, SLMMIF, XSYNIF, SYNEIF, SYNLIF, ILLPIF}
 use Rattle.rules.specs.Flags.{risr_events, gisr_events, cleared, write_risr, defers_clear, write_gisr}
-use Rattle.rules.specs.Modes.{enter, leave, wake, cancel}
-use Rattle.rules.specs.Writes.{cfg_after, release_all}
-use Rattle.rules.specs.Bus.{raise_gisr, sync_flag, sync_events, synced, timed_out, lost_events, faulted, raise_last}
+use Rattle.rules.specs.Modes.{enter}
+use Rattle.rules.specs.Writes.{cfg_after}
+use Rattle.rules.specs.Bus.{raise_gisr, sync_flag, sync_events, lost_events, faulted}
 use Rattle.controller.specs.View.{View}
 use Rattle.invariants.specs.Sound.{within, RISR, GISR, RIER, Registers, RegistersSound, Sound}
-use Rattle.invariants.specs.KeptLaws.{at, reset_view, Kept}
+use Rattle.invariants.specs.KeptLaws.{at, reset_view}
 use Rattle.invariants.specs.FlagLaws.{or-within, and-within}
-use Rattle.invariants.specs.ControlWriteLaws.{Prepared, prepared-by}
+use Rattle.invariants.specs.ControlWriteLaws.{Prepared}
 
 none_within : (m : ℕ) → within m 0
 unfolding within
@@ -63,17 +61,17 @@ module _ (f : Events) {rier cfg iena : ℕ} (r : Registers f rier cfg iena) wher
   more-gisr : (b : ℕ) → within GISR b → within GISR (bit_or f.gisr b)
   more-gisr b h = or-within GISR (omega arith) f.gisr b r.gisr-only h
 
-  risr-written : (v : ℕ) → Registers (write_risr f v) rier cfg iena
+  pub risr-written : (v : ℕ) → Registers (write_risr f v) rier cfg iena
   unfolding write_risr
   risr-written v = flags (less-risr (bit_and v risr_events)) r.gisr-only
 
-  gisr-written : (t : Bool) (v : ℕ) → Registers (write_gisr t f v) rier cfg iena
+  pub gisr-written : (t : Bool) (v : ℕ) → Registers (write_gisr t f v) rier cfg iena
   unfolding write_gisr
   gisr-written t v =
       pick-keeps (λ (e : Events). Registers e rier cfg iena) (defers_clear t f v)
       (λ d. flags r.risr-only (less-gisr (bit_and v (gisr_events - SYNLIF)))) (λ d. flags r.risr-only (less-gisr (bit_and v gisr_events)))
 
-  sync-raised : (k : SyncKind) → Registers (sync_events k f) rier cfg iena
+  pub sync-raised : (k : SyncKind) → Registers (sync_events k f) rier cfg iena
   unfolding sync_events within
   sync-raised k =
       flags (or-within RISR (omega arith) (bit_or f.risr (sync_flag k)) XSYNIF (more-risr (sync_flag k) (sync-flag k)) refl)
@@ -86,17 +84,17 @@ module _ (w : View) (s : Sound w) where
   abbrev events : Events
   events = w.control.events
 
-  raised : (b : ℕ) → within GISR b → RegistersSound (at w (raise_gisr w.control b))
+  pub raised : (b : ℕ) → within GISR b → RegistersSound (at w (raise_gisr w.control b))
   raised b h = flags events now now.risr-only (more-gisr events now b h)
 
-  faulted-registers : (k : Fault) → RegistersSound (at w (faulted k w.control))
+  pub faulted-registers : (k : Fault) → RegistersSound (at w (faulted k w.control))
   unfolding faulted lost_events within
   faulted-registers Early = raised SYNEIF refl
   faulted-registers Lost = flags events now now.risr-only (more-gisr events now SYNLIF refl)
   faulted-registers Illegal = raised ILLPIF refl
   faulted-registers Mismatch = flags events now (more-risr events now SLMMIF refl) now.gisr-only
 
-  entered-registers : RegistersSound (at w (enter w.control))
+  pub entered-registers : RegistersSound (at w (enter w.control))
   unfolding enter
   entered-registers =
       record {
@@ -108,7 +106,7 @@ module _ (w : View) (s : Sound w) where
       }
 
   -- CFG and IENA with one bit replaced
-  prepared-registers : (n v : ℕ) (b : Buffers) → Prepared w.control n v b → RegistersSound (at w (with_buffers w.control b))
+  pub prepared-registers : (n v : ℕ) (b : Buffers) → Prepared w.control n v b → RegistersSound (at w (with_buffers w.control b))
   prepared-registers n v b p =
       record {
         risr-only = now.risr-only;
@@ -118,43 +116,6 @@ module _ (w : View) (s : Sound w) where
         iena-lt = let h = put-lt w.control.buffers.iena n (has v IENA) in let e = p.iena-as in omega arith;
       }
 
-  configured : (g : Config) → (within RIER w.control.config.rier → within RIER g.rier) → RegistersSound (at w (with_config w.control g))
+  pub configured : (g : Config) → (within RIER w.control.config.rier → within RIER g.rier) → RegistersSound (at w (with_config w.control g))
   configured g h =
       record { risr-only = now.risr-only; gisr-only = now.gisr-only; rier-only = h now.rier-only; cfg-lt = now.cfg-lt; iena-lt = now.iena-lt }
-
-  pub registers-kept : Kept RegistersSound w
-  unfolding leave wake cancel synced timed_out raise_last release_all within
-  registers-kept =
-      let c = w.control in
-      record {
-        rewrites = λ v. now;
-        leaves = λ i l. now;
-        enters = entered-registers;
-        sleeps = λ i. now;
-        cancels = now;
-        wakes = λ i. now;
-        resizes = λ z i h m. now;
-        configures = λ g e h. configured g h;
-        clears-risr = λ v. risr-written events now v;
-        clears-gisr = λ v. gisr-written events now c.mode.synced v;
-        sends-ident = λ v h. now;
-        sends-length = λ l b h. now;
-        takes-ident = λ v i h. now;
-        takes-length = λ l b i h. now;
-        prepares = λ n v h m. prepared-by (λ (x : Control). RegistersSound (at w x)) c n v (λ b p. prepared-registers n v b p);
-        locks-transmit = λ n h u t. now;
-        locks-receive = λ n h u t r o. now;
-        locks-fifo = λ n h t o e. now;
-        delivers = λ k n b h e. now;
-        unlocks = λ n h f g. now;
-        syncs = λ k i. sync-raised events now k;
-        times-out = now;
-        faults = λ k i. faulted-registers k;
-        raises = λ b h i. raised b h;
-        passes = λ i t. now;
-        overruns = λ i t. raised OVRNIF refl;
-        holds = λ i l k t h u b f. now;
-        stores = λ i l t y h u. now;
-        queues = λ i l t y z u f. now;
-        sends = λ i n t e h. now;
-      }

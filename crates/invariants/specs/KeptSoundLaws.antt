@@ -1,15 +1,15 @@
--- Reset is sound, and each turn keeps every group of facts.
+-- Reset is sound, and facts that are kept are kept together.
 use Rattle.controller.specs.View.{View}
-use Rattle.invariants.specs.Sound.{LocksSound, FifoSound, ModeSound, BitsSound, RegistersSound, ArmingSound, ContentsSound, PlacesSound, Sound}
+use Rattle.invariants.specs.Sound.{LocksSound, FifoSound, BitsSound, RegistersSound, ArmingSound, ContentsSound, PlacesSound, Sound}
 use Rattle.invariants.specs.KeptLaws.{Kept, reset_view}
-use Rattle.invariants.specs.KeptLockLaws.{locks-kept, locks-reset}
-use Rattle.invariants.specs.KeptFifoLaws.{fifo-kept, fifo-reset}
-use Rattle.invariants.specs.KeptModeLaws.{modes-kept, modes-reset}
-use Rattle.invariants.specs.KeptBitLaws.{bits-kept, bits-reset}
-use Rattle.invariants.specs.KeptRegisterLaws.{registers-kept, registers-reset}
-use Rattle.invariants.specs.KeptArmingLaws.{arming-kept, arming-reset}
-use Rattle.invariants.specs.KeptContentsLaws.{contents-kept, contents-reset}
-use Rattle.invariants.specs.KeptPlaceLaws.{places-kept, places-reset}
+use Rattle.invariants.specs.KeptLockLaws.{locks-reset}
+use Rattle.invariants.specs.KeptFifoLaws.{fifo-reset}
+use Rattle.invariants.specs.KeptModeLaws.{modes-reset}
+use Rattle.invariants.specs.KeptBitLaws.{bits-reset}
+use Rattle.invariants.specs.KeptRegisterLaws.{registers-reset}
+use Rattle.invariants.specs.KeptArmingLaws.{arming-reset}
+use Rattle.invariants.specs.KeptContentsLaws.{contents-reset}
+use Rattle.invariants.specs.KeptPlaceLaws.{places-reset}
 
 pub reset-sound : Sound reset_view
 reset-sound =
@@ -25,7 +25,7 @@ reset-sound =
     }
 
 -- what follows from two facts that are kept is kept
-kept-with : (Q R P : View → Type 0) → ((u : View) → Q u → R u → P u) → (w : View) → Kept Q w → Kept R w → Kept P w
+pub kept-with : (Q R P : View → Type 0) → ((u : View) → Q u → R u → P u) → (w : View) → Kept Q w → Kept R w → Kept P w
 kept-with Q R P f w qs rs =
     record {
       rewrites = λ v. f _ (qs.rewrites v) (rs.rewrites v);
@@ -60,37 +60,18 @@ kept-with Q R P f w qs rs =
       sends = λ i n o e b. f _ (qs.sends i n o e b) (rs.sends i n o e b);
     }
 
-abbrev Both : (View → Type 0) → (View → Type 0) → View → Type 0
+abbrev pub Both : (View → Type 0) → (View → Type 0) → View → Type 0
 Both Q R u = Q u × R u
 
-both : (Q R : View → Type 0) (w : View) → Kept Q w → Kept R w → Kept (Both Q R) w
+pub both : (Q R : View → Type 0) (w : View) → Kept Q w → Kept R w → Kept (Both Q R) w
 both Q R = kept-with Q R (Both Q R) (λ u x y. (x, y))
 
--- so all groups are kept together
-abbrev Layout : View → Type 0
+-- the groups together
+abbrev pub Layout : View → Type 0
 Layout = Both LocksSound FifoSound
 
-abbrev Marks : View → Type 0
+abbrev pub Marks : View → Type 0
 Marks = Both BitsSound RegistersSound
 
-abbrev Frames : View → Type 0
+abbrev pub Frames : View → Type 0
 Frames = Both (Both ArmingSound ContentsSound) PlacesSound
-
-pub sound-kept : (w : View) → Sound w → Kept Sound w
-sound-kept w s =
-    let layout = both LocksSound FifoSound w (locks-kept w s) (fifo-kept w s) in
-    let marks = both BitsSound RegistersSound w (bits-kept w s) (registers-kept w s) in
-    let stored = both ArmingSound ContentsSound w (arming-kept w s) (contents-kept w s) in
-    let frames = both (Both ArmingSound ContentsSound) PlacesSound w stored (places-kept w s) in
-    let modes = both Layout ModeSound w layout (modes-kept w s) in
-    kept-with (Both Layout ModeSound) (Both Marks Frames) Sound (λ u x y.
-    record {
-      locks = x.0.0;
-      fifo = x.0.1;
-      modes = x.1;
-      bits = y.0.0;
-      registers = y.0.1;
-      arming = y.1.0.0;
-      contents = y.1.0.1;
-      places = y.1.1;
-    }) w modes (both Marks Frames w marks frames)

@@ -3,10 +3,9 @@ pub mod Sound
 pub mod Reads
 pub mod Slots
 pub mod Newest
+pub mod Released
 -- final statements
 pub mod Reachable
-pub mod Examined
-pub mod Released
 -- nothing to believe: laws, and the code's own definitions
 pub mod AcceptedLaws
 pub mod TestLaws

@@ -1,6 +1,6 @@
--- A step keeps a record sound; in a sound record neither the FIFO's next place nor an armed buffer is locked, and no frame waits in
--- initialization. And outside the windows a read shows the register's value.
-use Rattle.std.specs.Prelude.{◌≡◌, refl, ℕ, ◌+◌, ◌<◌, ◌≤◌, Bool, true, false, ◌&&◌, not, List, [], ◌∷◌, eqb, ltb}
+-- In a sound record neither the FIFO's next place nor an armed buffer is locked, and no frame waits in initialization. And outside the
+-- windows a read shows the register's value.
+use Rattle.std.specs.Prelude.{◌≡◌, refl, ℕ, ◌+◌, ◌<◌, ◌≤◌, Bool, true, false, ◌&&◌, not, List, eqb, ltb}
 use Rattle.std.proofs.Common.{sym, ap, ◌∙◌, arith, ne_eqb, ltb-true, ltb-false}
 use Rattle.std.proofs.Math.Bool.{and-false}
 use Rattle.std.proofs.lemmas.Bool.{false≢true, lt-leb}
@@ -15,31 +15,14 @@ use Rattle.rules.specs.Registers.{Region, send_place, receive_place, fifo_place,
 use Rattle.rules.specs.Kinds.{is_transmit, is_receive, is_locked}
 use Rattle.rules.specs.Waiting.{waits_for}
 use Rattle.rules.specs.Reads.{reply_in}
-use Rattle.rules.specs.Steps.{Step, hide}
-use Rattle.rules.specs.Rules.{decide}
+use Rattle.rules.specs.Steps.{Step}
 use Rattle.rules.specs.Untouched.{TargetsFree}
-use Rattle.controller.specs.declared.Controller.{Controller}
 use Rattle.controller.specs.Carry.{answer_of}
-use Rattle.controller.specs.Session.{step_by, end_by}
-use Rattle.controller.specs.View.{View, view_of}
-use Rattle.controller.specs.ViewLaws.{view_next, step-view}
+use Rattle.controller.specs.View.{View}
 use Rattle.invariants.specs.Sound.{PairSound, Sound}
-use Rattle.invariants.specs.StepLaws.{step_kept}
 use Rattle.invariants.specs.Reads.{is_window}
 use Rattle.invariants.specs.ViewLaws.{lawful-low}
 use Rattle.invariants.specs.KeptModeLaws.{nothing-waits}
-use Rattle.invariants.specs.KeptSoundLaws.{reset-sound, sound-kept}
-
-pub step-sound : (w : View) → Sound w → (e : Step) → Sound (view_next decide w e)
-step-sound w s e = step_kept Sound sound-kept w s reset-sound e
-
-pub next-sound : (c : Controller) (e : Step) → Sound (view_of c) → Sound (view_of (step_by decide c e).next)
-next-sound c e s = rw (step-view decide c e) (step-sound (view_of c) s (hide e))
-
-pub session-sound : (c : Controller) (es : List Step) → Sound (view_of c) → Sound (view_of (end_by decide c es))
-unfolding end_by
-session-sound c [] s = s
-session-sound c (e ∷ es) s = session-sound (step_by decide c e).next es (next-sound c e s)
 
 -- ---- the FIFO's next place is not locked while there is room, nor is an armed buffer
 

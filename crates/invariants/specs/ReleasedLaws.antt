@@ -1,12 +1,10 @@
--- The step that releases a buffer, and the steps that leave a waiting frame where it is and the newest for its buffer.
-use Rattle.std.specs.Prelude.{◌≡◌, refl, ℕ, ◌+◌, ◌-◌, ◌<◌, Bool, true, false, ◌&&◌, not, length, eqb, ltb}
-use Rattle.std.proofs.Common.{sym, ◌∙◌, subst, arith, eq-eqb, le-ltb, lt-ltb, get_or-set_same, get_or-set_other}
+-- The step that releases a buffer: flag and places after it, and the buffers' bytes where no frame waited.
+use Rattle.std.specs.Prelude.{◌≡◌, refl, ℕ, ◌+◌, ◌-◌, ◌<◌, true, false, eqb, ltb}
+use Rattle.std.proofs.Common.{◌∙◌, arith, eq-eqb, le-ltb, lt-ltb}
 use Rattle.std.proofs.Math.Path.{ap}
-use mathlib.Core.List.{List, [], ◌∷◌}
-use Rattle.std.proofs.lemmas.Bool.{not-true}
-use Rattle.masks.specs.PickLaws.{pick_true, pick-false, by-test}
+use mathlib.Core.List.{List, []}
+use Rattle.masks.specs.PickLaws.{pick_true, pick-false}
 use Rattle.contents.specs.declared.Contents.{Contents}
-use Rattle.contents.specs.Bytes.{no_contents, image_of}
 use Rattle.rules.specs.declared.Register.{Register}
 use Rattle.rules.specs.declared.Register.TheVariants.{Bufctl, Reserved}
 use Rattle.rules.specs.declared.Answer.TheVariants.{Ok}
@@ -17,22 +15,17 @@ use Rattle.rules.specs.Kinds.{has_iflg}
 use Rattle.rules.specs.Waiting.{waits_for, delivered, deliveries}
 use Rattle.rules.specs.Writes.{release_all, unlock, write_lock, write_bufctl, written, write_moves}
 use Rattle.rules.specs.Refusals.{refusal}
-use Rattle.rules.specs.Steps.{Step, write, frame}
+use Rattle.rules.specs.Steps.{Step, write}
 use Rattle.rules.specs.Plan.{Move, say, Plan}
 use Rattle.rules.specs.Rules.{act, decide}
 use Rattle.controller.specs.declared.Controller.{Controller}
-use Rattle.controller.specs.Carry.{Outcome, row_at, heads, move_all, hold_all, carry}
-use Rattle.controller.specs.Session.{step_by, end_by, step_of, end_of}
-use Rattle.controller.specs.View.{view_of}
+use Rattle.controller.specs.Carry.{Outcome, row_at, heads, move_all, carry}
+use Rattle.controller.specs.Session.{step_of}
 use Rattle.controller.specs.CodeLaws.{step-plain}
 use Rattle.invariants.specs.KeptLaws.{prepared}
 use Rattle.invariants.specs.ControlWriteLaws.{prepared-by}
-use Rattle.invariants.specs.Sound.{Sound}
-use Rattle.invariants.specs.TestLaws.{and_left, and_right}
-use Rattle.invariants.specs.ReachableLaws.{next-sound, session-sound}
-use Rattle.invariants.specs.StillWaitingLaws.{frame-begins, decide-fine}
-use Rattle.invariants.specs.Newest.{is_waited_for, newest, is_waiting_for, is_release, leaves_waiting, keeps_waiting}
-use Rattle.invariants.specs.DeliveredLaws.{newest-left, rows_left, delivered-places, delivered-flag, none-waits, without}
+use Rattle.invariants.specs.Newest.{is_waited_for, newest}
+use Rattle.invariants.specs.DeliveredLaws.{rows_left, delivered-places, delivered-flag, none-waits, without}
 
 -- ---- the release
 
@@ -82,7 +75,7 @@ module _ (c : Controller) (n v : ℕ) (small : n < 16) (lock : has v LOCK ≡ fa
   unfolding carry written write_bufctl write_lock unlock
   control-after = ap (λ (x : Controller). x.control) stepped ∙ pick-false (has v LOCK) _ (unlock (prepared c.control n v) n) lock
 
-  rows-after : d.rows ≡ move_all e c.held (deliveries c.control n) c.rows
+  pub rows-after : d.rows ≡ move_all e c.held (deliveries c.control n) c.rows
   unfolding carry write_moves
   rows-after =
       ap (λ (x : Controller). x.rows) stepped
@@ -103,21 +96,8 @@ module _ (c : Controller) (n v : ℕ) (small : n < 16) (lock : has v LOCK ≡ fa
       ap (λ (x : Control). has_iflg x n) control-after
       ∙ delivered-flag (prepared c.control n v) n small (ap (λ (p : Places). is_waited_for p n) (prepared-places c.control n v) ∙ t)
 
-  pub released-row : length c.rows ≡ 16 → is_waited_for c.control.places n ≡ true →
-      row_at d.rows n ≡ row_at c.held (newest c.control.places n)
-  released-row l t =
-      ap (λ (rows : List Contents). row_at rows n) (rows-after ∙ newest-left e n c.control c.held c.rows t)
-      ∙ get_or-set_same c.rows n _ no_contents (omega arith)
-
   pub released-none : is_waited_for c.control.places n ≡ false → d.rows ≡ c.rows
   released-none t = rows-after ∙ rows_left e n c.control c.held c.rows t
-
-  pub released-other : (m : ℕ) → (m ≡ n → ⊥) → row_at d.rows m ≡ row_at c.rows m
-  released-other m apart =
-      by-test (is_waited_for c.control.places n)
-      (λ t. ap (λ (rows : List Contents). row_at rows m) (rows-after ∙ newest-left e n c.control c.held c.rows t)
-      ∙ get_or-set_other c.rows n m _ no_contents apart)
-      (λ t. ap (λ (rows : List Contents). row_at rows m) (released-none t))
 
 -- ---- the session before it
 
@@ -125,54 +105,3 @@ module _ (c : Controller) (n v : ℕ) (small : n < 16) (lock : has v LOCK ≡ fa
 pub record Waiting (c : Controller) (n : ℕ) (b : Contents) : Type 0 where
   pub waited : is_waited_for c.control.places n ≡ true
   pub image : row_at c.held (newest c.control.places n) ≡ b
-
--- a frame that is answered so
-module _ (c : Controller) (good : Bool) (f : List ℕ) (n : ℕ) (two : length c.held ≡ 2) where
-  carried-begins : is_waiting_for n (carry (frame good f) c.rows c.held (decide c.control (heads c.rows) (frame good f))).answer ≡ true →
-      (n < 16) × Waiting (carry (frame good f) c.rows c.held (decide c.control (heads c.rows) (frame good f))).next n (image_of f)
-  unfolding carry
-  carried-begins t =
-      let b = frame-begins (frame good f) c.rows c.held n c.control (heads c.rows) good f t two in
-      (b.0, record { waited = b.1; image = b.2 })
-
-  pub begins-waiting : is_waiting_for n (step_of c (frame good f)).answer ≡ true → (n < 16) × Waiting (step_of c (frame good f)).next n (image_of f)
-  begins-waiting =
-      subst (λ (o : Outcome). is_waiting_for n o.answer ≡ true → (n < 16) × Waiting o.next n (image_of f)) (sym (step-plain c (frame good f)))
-      carried-begins
-
--- stays so along a step, and along a session
-module _ (n : ℕ) (small : n < 16) (b : Contents) where
-  carried-stays : (c : Controller) (e : Step) → Waiting c n b → is_release c.control n e ≡ false →
-      (carry e c.rows c.held (decide c.control (heads c.rows) e)).next.control.mode.init ≡ false →
-      is_waiting_for n (carry e c.rows c.held (decide c.control (heads c.rows) e)).answer ≡ false →
-      Waiting (carry e c.rows c.held (decide c.control (heads c.rows) e)).next n b
-  unfolding carry
-  carried-stays c e w r i a =
-      let s = decide-fine c.control e c.rows c.held n small w.waited (heads c.rows) e r a i in
-      record {
-        waited = s.waited-still;
-        image = ap (row_at (hold_all e (decide c.control (heads c.rows) e).moves c.held)) s.newest-same ∙ s.bytes_same ∙ w.image;
-      }
-
-  step_stays : (c : Controller) (e : Step) → Waiting c n b → leaves_waiting c n e ≡ true → Waiting (step_of c e).next n b
-  step_stays c e w t =
-      let ended = (step_of c e).next.control.mode.init in
-      let released = is_release c.control n e in
-      let newer = is_waiting_for n (step_of c e).answer in
-      let two = and_left (not ended && not released) (not newer) t in
-      subst (λ (o : Outcome). o.next.control.mode.init ≡ false → is_waiting_for n o.answer ≡ false → Waiting o.next n b) (sym (step-plain c e))
-      (carried-stays c e w (not-true released (and_right (not ended) (not released) two)))
-      (not-true ended (and_left (not ended) (not released) two)) (not-true newer (and_right (not ended && not released) (not newer) t))
-
-  pub session-stays : (c : Controller) (es : List Step) → Waiting c n b → keeps_waiting c n es ≡ true → Waiting (end_of c es) n b
-  unfolding keeps_waiting end_of end_by step_of
-  session-stays c [] w t = w
-  session-stays c (e ∷ es) w t =
-      let here = leaves_waiting c n e in
-      let rest = keeps_waiting (step_of c e).next n es in
-      session-stays (step_of c e).next es (step_stays c e w (and_left here rest t)) (and_right here rest t)
-
--- the record at its end is sound
-pub sound-after : (c : Controller) → Sound (view_of c) → (e : Step) (es : List Step) → Sound (view_of (end_of (step_of c e).next es))
-unfolding end_of step_of
-sound-after c s e es = session-sound (step_by decide c e).next es (next-sound c e s)

@@ -1,59 +1,54 @@
--- A step that neither enters initialization, releases buffer n nor brings another frame for it leaves the newest frame for n in its
--- place: another frame takes a free place, and a release of another buffer frees other places. And a frame answered "waiting" for n is
--- then the newest.
-use Rattle.std.specs.Prelude.{◌≡◌, ℕ, ◌+◌, ◌<◌, Bool, ◌&&◌, ◌||◌, get_or, length, ltb, leb}
-use Rattle.std.proofs.Math.Path.{refl, sym, ap, subst}
-use Rattle.std.proofs.Common.{◌∙◌, get_or-set_other}
+-- Towards proofs/StillWaitingLaws.antt: writes, and bus steps but for frames, that leave the newest frame for a buffer in its place.
+use Rattle.std.specs.Prelude.{◌≡◌, ℕ, ◌+◌, ◌<◌, Bool, ◌&&◌, length, ltb, leb}
+use Rattle.std.proofs.Math.Path.{refl, sym, ap}
+use Rattle.std.proofs.Common.{◌∙◌}
 use Rattle.std.proofs.Math.Bool.{true, false, not, false≢true}
 use mathlib.Core.List.{List, [], ◌∷◌}
 use native.Mathlib.Omega.{arith}
-use borrow.Author.Tests.{eq-eqb, ne_eqb, eqb-true, ltb-true, leb-true}
+use borrow.Author.Tests.{eq-eqb, eqb-true}
 use Rattle.std.proofs.Math.Seq.{get_or-set_same}
 use Rattle.std.proofs.Math.Dec.{eqb}
 use Rattle.masks.specs.Pick.{pick}
-use Rattle.masks.specs.PickLaws.{pick_true, pick-false, pick-keeps, by-test}
+use Rattle.masks.specs.PickLaws.{pick_true, pick-false, pick-keeps}
 use Rattle.locks.specs.declared.Locks.{Locks}
 use Rattle.contents.specs.declared.Contents.{Contents}
-use Rattle.contents.specs.Bytes.{Head, no_contents, image_of}
-use Rattle.rules.specs.declared.Fault.TheVariants.{Early, Lost, Illegal, Mismatch}
+use Rattle.contents.specs.Bytes.{no_contents, image_of}
 use Rattle.rules.specs.declared.Register.{Register}
 use Rattle.rules.specs.declared.Register.TheVariants.{Mcr, Fsizr, Tcr1, Tcr2, Tcr3, Risr, Gisr, Rier, Gier, Rivec, Tivec, Fidac, Fidmr, Mvr, Pctlbf, Buflock, Fidrj, Fidrmr, TransmitWindow, ReceiveWindow, FifoWindow, Bufctl, Reserved}
 use Rattle.rules.specs.declared.Places.{Places}
 use Rattle.rules.specs.declared.Control.{Control}
-use Rattle.rules.specs.Registers.{has, register_at, reset_control, LOCK, INITRQ, SLPRQ}
+use Rattle.rules.specs.Registers.{has, LOCK, INITRQ, SLPRQ}
 use Rattle.rules.specs.Kinds.{is_transmit, is_receive, is_locked}
-use Rattle.rules.specs.Waiting.{is_free, asleep, occupied, deliveries}
+use Rattle.rules.specs.Waiting.{is_free, asleep, deliveries}
 use Rattle.rules.specs.Modes.{enter, leave, wake, cancel, write_sleep, mode_by, write_mcr}
 use Rattle.rules.specs.Writes.{enters_by_lock, lock_error, lock, release_all, unlock, write_lock, write_bufctl, written, window_moves, write_moves}
-use Rattle.rules.specs.Bus.{woken, synced, due_sync, timed_out, faulted, lookup, to_place, to_buffer, fifo_takes, to_fifo, raise_last, found, judged, received, send_from, slot_for, slotted}
-use Rattle.rules.specs.Refusals.{write_refusal, refusal}
-use Rattle.rules.specs.Steps.{Step, reset, read, write, sync, sync_due, slot, frame, fault, timeout, frame_in}
+use Rattle.rules.specs.Bus.{to_place, fifo_takes, to_fifo, raise_last}
+use Rattle.rules.specs.Steps.{Step, frame_in}
 use Rattle.rules.specs.Plan.{Move, hold, Plan}
-use Rattle.rules.specs.Rules.{on_bus, act, decide}
+use Rattle.rules.specs.Rules.{on_bus}
 use Rattle.controller.specs.Carry.{row_at, hold_all, answer_of}
-use Rattle.invariants.specs.TestLaws.{impossible, and_left, and_both, and-rest, or_cases, or-by-left, or-by-right, both-keep}
-use Rattle.invariants.specs.AcceptedLaws.{write-accepted, is_address, address-of}
-use Rattle.invariants.specs.StepLaws.{low-address}
+use Rattle.invariants.specs.TestLaws.{impossible, and_left, and_both, or-by-left, or-by-right, both-keep}
+use Rattle.invariants.specs.AcceptedLaws.{is_address}
 use Rattle.invariants.specs.ControlWriteLaws.{prepared-by}
-use Rattle.invariants.specs.Newest.{is_waited_for, newest, is_waiting_for, is_release}
+use Rattle.invariants.specs.Newest.{is_waited_for, newest, is_waiting_for}
 use Rattle.invariants.specs.DeliveredLaws.{without, delivered-places, held-left, waited-still, newest-still}
 
 -- one place alone has a frame for n
-only-first : (p : Places) (n : ℕ) → eqb p.first n ≡ true → eqb p.second n ≡ false → newest p n ≡ 0
+pub only-first : (p : Places) (n : ℕ) → eqb p.first n ≡ true → eqb p.second n ≡ false → newest p n ≡ 0
 only-first p n t u = pick-keeps (λ (k : ℕ). k ≡ 0) p.swapped (λ s. pick_true (eqb p.first n) 0 1 t) (λ s. pick-false (eqb p.second n) 1 0 u)
 
-only-second : (p : Places) (n : ℕ) → eqb p.first n ≡ false → eqb p.second n ≡ true → newest p n ≡ 1
+pub only-second : (p : Places) (n : ℕ) → eqb p.first n ≡ false → eqb p.second n ≡ true → newest p n ≡ 1
 only-second p n t u = pick-keeps (λ (k : ℕ). k ≡ 1) p.swapped (λ s. pick-false (eqb p.first n) 0 1 t) (λ s. pick_true (eqb p.second n) 1 0 u)
 
 -- ---- a frame answered "waiting" for n is the newest
 
 module _ (e : Step) (rows held : List Contents) (n : ℕ) where
-  abbrev Begins : Plan → Type 0
+  abbrev pub Begins : Plan → Type 0
   Begins q =
       is_waiting_for n (answer_of e rows q.reply) ≡ true → length held ≡ 2 →
       (n < 16) × (is_waited_for q.control.places n ≡ true) × (row_at (hold_all e q.moves held) (newest q.control.places n) ≡ image_of (frame_in e))
 
-  place-begins : (c : Control) (m : ℕ) → m < 16 → Begins (to_place c m)
+  pub place-begins : (c : Control) (m : ℕ) → m < 16 → Begins (to_place c m)
   unfolding to_place hold_all pick
   place-begins c m h =
       pick-keeps Begins (is_free c 0)
@@ -70,30 +65,11 @@ module _ (e : Step) (rows held : List Contents) (n : ℕ) where
       ))
       (λ x a. impossible a))
 
-  buffer-begins : (c : Control) (m : ℕ) → m < 16 → Begins (to_buffer c m)
-  unfolding to_buffer
-  buffer-begins c m h = pick-keeps Begins (is_locked c m) (λ t. place-begins c m h) (λ t a. impossible a)
-
-  fifo-begins : (c : Control) (i : ℕ) → Begins (to_fifo c i)
+  pub fifo-begins : (c : Control) (i : ℕ) → Begins (to_fifo c i)
   unfolding to_fifo
   fifo-begins c i =
       pick-keeps Begins (fifo_takes c i)
       (λ t. pick-keeps Begins (leb c.config.fsiz c.fifo.count) (λ u a. impossible a) (λ u a. impossible a)) (λ t a. impossible a)
-
-  judged-begins : (c : Control) (good : Bool) (i m : ℕ) → Begins (judged c good i m)
-  unfolding judged found
-  judged-begins c good i m =
-      pick-keeps Begins (not c.mode.synced) (λ t a. impossible a)
-      (λ t. pick-keeps Begins (not good || eqb i 0) (λ u a. impossible a)
-      (λ u. pick-keeps Begins (ltb m 16) (λ x. buffer-begins (raise_last (cancel c) i) m (ltb-true m 16 x)) (λ x. fifo-begins (raise_last (cancel c) i) i)))
-
-  pub frame-begins : (c : Control) (hs : List Head) (good : Bool) (f : List ℕ) → Begins (decide c hs (frame good f))
-  unfolding decide act on_bus received
-  frame-begins c hs good f =
-      pick-keeps Begins (eqb (refusal c (frame good f)) 0)
-      (λ t. pick-keeps Begins c.mode.init (λ u a. impossible a)
-      (λ u. pick-keeps Begins (asleep c) (λ x a. impossible a) (λ x. judged-begins c good (get_or f 0 0) (lookup c hs (get_or f 0 0)))))
-      (λ t a. impossible a)
 
 -- ---- and stays so
 
@@ -105,17 +81,17 @@ module _ (c : Control) (e : Step) (rows held : List Contents) (n : ℕ) (small :
     pub bytes_same : row_at (hold_all e ms held) (newest c.places n) ≡ row_at held (newest c.places n)
 
   -- where initialization, i, isn't entered
-  abbrev Unless : Bool → Places → List Move → Type 0
+  abbrev pub Unless : Bool → Places → List Move → Type 0
   Unless i q ms = i ≡ false → Stays q ms
 
-  abbrev Steady : Control → List Move → Type 0
+  abbrev pub Steady : Control → List Move → Type 0
   Steady d ms = Unless d.mode.init d.places ms
 
-  entered : {i : Bool} {q : Places} {ms : List Move} → i ≡ true → Unless i q ms
+  pub entered : {i : Bool} {q : Places} {ms : List Move} → i ≡ true → Unless i q ms
   entered t o = absurd (false≢true (sym o ∙ t))
 
   -- the same places, and no frame held
-  same : {i : Bool} {q : Places} {ms : List Move} → q ≡ c.places → hold_all e ms held ≡ held → Unless i q ms
+  pub same : {i : Bool} {q : Places} {ms : List Move} → q ≡ c.places → hold_all e ms held ≡ held → Unless i q ms
   same p m o =
       record {
         waited-still = ap (λ (q : Places). is_waited_for q n) p ∙ waited;
@@ -123,7 +99,7 @@ module _ (c : Control) (e : Step) (rows held : List Contents) (n : ℕ) (small :
         bytes_same = ap (λ (hs : List Contents). row_at hs (newest c.places n)) m;
       }
 
-  unmoved : {i : Bool} {q : Places} → q ≡ c.places → Unless i q []
+  pub unmoved : {i : Bool} {q : Places} → q ≡ c.places → Unless i q []
   unfolding hold_all
   unmoved p = same p refl
 
@@ -171,7 +147,7 @@ module _ (c : Control) (e : Step) (rows held : List Contents) (n : ℕ) (small :
   window-steady m q v =
       pick-keeps (Steady c) (eqb q 0) (λ t. same refl refl) (λ t. pick-keeps (Steady c) (eqb q 1) (λ u. same refl refl) (λ u. same refl refl))
 
-  write-steady : (a v : ℕ) → (eqb a (0x50 + n) && not (has v LOCK)) ≡ false → (r : Register) → is_address a r ≡ true →
+  pub write-steady : (a v : ℕ) → (eqb a (0x50 + n) && not (has v LOCK)) ≡ false → (r : Register) → is_address a r ≡ true →
       Steady (written c r v) (write_moves c r v)
   unfolding written write_moves write_mcr is_address
   write-steady a v other Mcr at = mode-steady _ refl c.mode.init (has v INITRQ) (has v SLPRQ)
@@ -204,85 +180,15 @@ module _ (c : Control) (e : Step) (rows held : List Contents) (n : ℕ) (small :
   -- ---- bus steps
 
   -- a plan that isn't answered "waiting" for n
-  abbrev Fine : Plan → Type 0
+  abbrev pub Fine : Plan → Type 0
   Fine q = is_waiting_for n (answer_of e rows q.reply) ≡ false → Steady q.control q.moves
 
-  -- another frame takes the first place, or the second: n's is the other
-  first_taken : (m : ℕ) → eqb m n ≡ false → is_free c 0 ≡ true → Stays (occupied c.places 0 m) (hold 0 ∷ [])
-  unfolding hold_all pick
-  first_taken m d free =
-      let p = c.places in
-      let high = leb-true 16 p.first free in
-      let t : eqb p.first n ≡ false = ne_eqb p.first n (λ z. omega arith) in
-      let u : eqb p.second n ≡ true = or_cases (eqb p.first n) (eqb p.second n) waited (λ z. absurd (false≢true (sym t ∙ z))) (λ z. z) in
-      let one = only-second p n t u in
-      record {
-        waited-still = or-by-right (eqb m n) (eqb p.second n) u;
-        newest-same = pick-false (eqb m n) 0 1 d ∙ sym one;
-        bytes_same = subst (λ (k : ℕ). row_at (hold_all e (hold 0 ∷ []) held) k ≡ row_at held k) (sym one)
-            (get_or-set_other held 0 1 _ no_contents (λ z. omega arith));
-      }
-
-  second-taken : (m : ℕ) → eqb m n ≡ false → is_free c 1 ≡ true → Stays (occupied c.places 1 m) (hold 1 ∷ [])
-  unfolding hold_all pick
-  second-taken m d free =
-      let p = c.places in
-      let high = leb-true 16 p.second free in
-      let u : eqb p.second n ≡ false = ne_eqb p.second n (λ z. omega arith) in
-      let t : eqb p.first n ≡ true = or_cases (eqb p.first n) (eqb p.second n) waited (λ z. z) (λ z. absurd (false≢true (sym u ∙ z))) in
-      let nought = only-first p n t u in
-      record {
-        waited-still = or-by-left (eqb p.first n) (eqb m n) t;
-        newest-same = pick-false (eqb m n) 1 0 d ∙ sym nought;
-        bytes_same = subst (λ (k : ℕ). row_at (hold_all e (hold 1 ∷ []) held) k ≡ row_at held k) (sym nought)
-            (get_or-set_other held 1 0 _ no_contents (λ z. omega arith));
-      }
-
-  buffer-fine : (i m : ℕ) → Fine (to_buffer (raise_last (cancel c) i) m)
-  unfolding to_buffer to_place raise_last cancel hold_all
-  buffer-fine i m =
-      pick-keeps Fine (is_locked _ m)
-      (λ t. pick-keeps Fine (is_free c 0) (λ u a o. first_taken m a u)
-      (λ u. pick-keeps Fine (is_free c 1) (λ x a o. second-taken m a x) (λ x a. unmoved refl)))
-      (λ t a. same refl refl)
-
-  fifo-fine : (i : ℕ) → Fine (to_fifo (raise_last (cancel c) i) i)
+  pub fifo-fine : (i : ℕ) → Fine (to_fifo (raise_last (cancel c) i) i)
   unfolding to_fifo raise_last cancel hold_all
   fifo-fine i =
       pick-keeps Fine (fifo_takes _ i) (λ t. pick-keeps Fine (leb c.config.fsiz c.fifo.count) (λ u a. unmoved refl) (λ u a. same refl refl))
       (λ t a. unmoved refl)
 
-  frame-fine : (good : Bool) (i m : ℕ) → Fine (judged c good i m)
-  unfolding judged found cancel
-  frame-fine good i m =
-      pick-keeps Fine (not c.mode.synced) (λ t a. unmoved refl)
-      (λ t. pick-keeps Fine (not good || eqb i 0) (λ u a. unmoved refl) (λ u. pick-keeps Fine (ltb m 16) (λ x. buffer-fine i m) (λ x. fifo-fine i)))
-
-  bus-fine : (x y : Plan) → Fine x → Fine y → Fine (on_bus c x y)
+  pub bus-fine : (x y : Plan) → Fine x → Fine y → Fine (on_bus c x y)
   unfolding on_bus
   bus-fine x y p q = pick-keeps Fine c.mode.init (λ t a. unmoved refl) (λ t. pick-keeps Fine (asleep c) (λ u. p) (λ u. q))
-
-  act-fine : (hs : List Head) (s : Step) → refusal c s ≡ 0 → is_release c n s ≡ false → Fine (act c hs s)
-  unfolding act refusal reset_control woken wake synced cancel timed_out faulted due_sync slotted slot_for send_from received
-  act-fine hs reset r o = λ a. entered refl
-  act-fine hs (read x) r o = λ a. unmoved refl
-  act-fine hs (write x v) r o =
-      let here = eqb x (0x50 + n) && not (has v LOCK) in
-      λ a. write-steady x v (by-test here (λ t. absurd (false≢true (sym (and-rest here _ o t) ∙ eq-eqb (write_refusal c x v) 0 r))) (λ t. t))
-      (register_at x) (address-of x (low-address x (write-accepted c x v r).not1))
-  act-fine hs (sync k) r o = bus-fine _ _ (λ a. unmoved refl) (λ a. unmoved refl)
-  act-fine hs sync_due r o = bus-fine _ _ (λ a. unmoved refl) (pick-keeps Fine c.mode.master (λ t a. unmoved refl) (λ t a. unmoved refl))
-  act-fine hs (slot i room) r o =
-      bus-fine _ _ (λ a. unmoved refl)
-      (pick-keeps Fine (not c.mode.synced) (λ t a. unmoved refl) (λ t. pick-keeps Fine _ (λ u a. unmoved refl) (λ u a. unmoved refl)))
-  act-fine hs (frame good f) r o = bus-fine _ _ (λ a. unmoved refl) (frame-fine good (get_or f 0 0) (lookup c hs (get_or f 0 0)))
-  act-fine hs (fault Early) r o = bus-fine _ _ (λ a. unmoved refl) (λ a. unmoved refl)
-  act-fine hs (fault Lost) r o = bus-fine _ _ (λ a. unmoved refl) (λ a. unmoved refl)
-  act-fine hs (fault Illegal) r o = bus-fine _ _ (λ a. unmoved refl) (λ a. unmoved refl)
-  act-fine hs (fault Mismatch) r o = bus-fine _ _ (λ a. unmoved refl) (λ a. unmoved refl)
-  act-fine hs timeout r o = bus-fine _ _ (λ a. unmoved refl) (λ a. unmoved refl)
-
-  pub decide-fine : (hs : List Head) (s : Step) → is_release c n s ≡ false → Fine (decide c hs s)
-  unfolding decide
-  decide-fine hs s o =
-      pick-keeps Fine (eqb (refusal c s) 0) (λ t. act-fine hs s (eqb-true (refusal c s) 0 t) o) (λ t a. unmoved refl)

@@ -1,4 +1,6 @@
 // Kinds of buffers, what is locked, the lawful layout.
+#![tactic(auto)]
+
 ghost use Rattle.std.specs.Prelude.{◌≡◌};
 ghost use Rattle.masks.specs.Bits.{mask_of};
 ghost use Rattle.rules.specs.Kinds.{is_locked, is_full_transmit, is_transmit, is_receive, is_oldest, fifo_holder, lockif, is_lawful, place_after};
@@ -69,6 +71,7 @@ pub fn armed(c: Control) -> u16
 }
 
 // Buffer n is a holder, a contender, or the locked entry of the FIFO.
+#[tactic(auto, unfolding(rules::specs::Kinds::is_locked))]
 pub fn is_locked(c: Control, n: u8) -> bool
     ensures { result ≡ is_locked c n }
 {

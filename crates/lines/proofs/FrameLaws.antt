@@ -1,21 +1,13 @@
 -- A frame by value that the code holds.
 use Prim.Native.Nat.{ℕ, zero, suc, ◌≤◌, ◌<◌, min}
-use mathlib.Core.Path.{◌≡◌, refl, sym, ap, ◌∙◌}
+use mathlib.Core.Path.{◌≡◌, refl, ap, ◌∙◌}
 use mathlib.Core.List.{List, [], ◌∷◌}
 use native.Mathlib.Omega.{arith}
-use lib.ListN.{length, take, length-map, length-take}
-use mir.Val.{Val}
-use denote.Shadow.{shadow}
-use denote.Struct.Declared.{row}
+use lib.ListN.{length, take, length-take}
 use Rattle.lines.specs.declared.FrameBytes.{FrameBytes}
 use Rattle.lines.specs.Grammar.{bytes_in}
-use Rattle.lines.specs.contracts.FrameBytes.{the_type as the_frame}
 
--- it has thirty-four bytes
-pub all-bytes : (f : FrameBytes) (vs : List Val) → shadow ((row the_frame).own_val f vs) → length f.bytes ≡ 34
-all-bytes f vs good = sym (length-map f.bytes _) ∙ good.1.1.0.1.0.1
-
--- of which so many are its own
+-- it has thirty-four bytes, of which so many are its own
 pub frame-length : (f : FrameBytes) → length f.bytes ≡ 34 → length (bytes_in f) ≡ min f.size 34
 frame-length f all = length-take f.size f.bytes ∙ ap (min f.size) all
 

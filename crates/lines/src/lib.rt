@@ -1,4 +1,6 @@
 // One line of a recording, without its LF, as a step. Any bytes get an answer: what is no step is unread.
+#![tactic(auto)]
+
 mod in_text;
 
 ghost use Rattle.std.specs.Prelude.{◌≡◌, ◌≤◌, length};
@@ -9,7 +11,7 @@ pub use in_text::{none, read};
 use rules::{Fault, SyncKind};
 
 // What a line means: a call, or it is unread.
-#[derive(Drop)]
+#[derive(Clone, Copy)]
 pub enum Line {
     Means(Call),
     Unread,
@@ -18,7 +20,7 @@ pub enum Line {
 // A frame's bytes as a value: the first size of them, all where size is larger. No line has more than thirty. The rules look at the
 // first two; the thirty-two behind them are copied as two words of sixteen, where an odd rest would overlap and each copy of it wait for the
 // one before.
-#[derive(Drop)]
+#[derive(Clone, Copy)]
 pub struct FrameBytes {
     pub bytes: [u8; 34],
     pub size: u8,
@@ -32,14 +34,14 @@ pub fn frame_size(f: FrameBytes) -> usize
 }
 
 // A line, and the bytes of its frame beside it: none where it is no frame.
-#[derive(Drop)]
+#[derive(Clone, Copy)]
 pub struct Parsed {
     pub line: Line,
     pub frame: FrameBytes,
 }
 
 // A step that stands in a text: its call, its frame's bytes, and the index of its line's LF; 0 where there is none.
-#[derive(Drop)]
+#[derive(Clone, Copy)]
 pub struct Found {
     pub call: Call,
     pub frame: FrameBytes,

@@ -1,4 +1,6 @@
 // The locks of one kind of buffer. A number from NONE on names no buffer.
+#![tactic(auto)]
+
 ghost use Rattle.std.specs.Prelude.{◌≡◌};
 ghost use Rattle.masks.specs.Bits.{mask_of};
 ghost use Rattle.locks.specs.Pair.{has_holder, has_contender, in_pair, is_full, take_lock, release_lock};
@@ -7,7 +9,7 @@ use masks::NONE;
 
 // Holder and contender, by buffer number.
 #[repr(C)]
-#[derive(Drop)]
+#[derive(Clone, Copy)]
 pub struct Locks {
     pub holder: u8,
     pub contender: u8,

@@ -1,3 +1,4 @@
 pub mod Shifts
 pub mod Zeros
 pub mod Ones
+pub mod LawfulLayout

@@ -1,11 +1,11 @@
 -- The lawful layout: a test of the mask as a number, against the rule by buffers.
-use Rattle.std.specs.Prelude.{ℕ, zero, suc, ◌+◌, ◌-◌, ◌<◌, ◌≤◌, min, Bool, true, false, not, ◌&&◌, ◌||◌, ◌≡◌, refl, eqb, ltb, leb}
-use Rattle.std.proofs.Common.{sym, ap, ap₂, ◌∙◌, arith, le-ltb, ltb-true, ltb-false, eq-eqb, eqb-true, ne_eqb}
+use Rattle.std.specs.Prelude.{ℕ, zero, suc, ◌+◌, ◌-◌, ◌<◌, ◌≤◌, min, Bool, true, false, not, ◌&&◌, ◌||◌, ◌≡◌, refl, eqb, ltb}
+use Rattle.std.proofs.Common.{sym, ap, ap₂, ◌∙◌, arith, le-ltb, ltb-true, ltb-false, eqb-true, ne_eqb}
 use Rattle.std.proofs.lemmas.Bool.{eqb-false}
 use Rattle.masks.specs.PickLaws.{pick-keeps, by-test}
 use Rattle.masks.specs.Bits.{bit_of, mask_of, lowest, count_of, rising}
 use Rattle.masks.specs.Laws.{not-by-mask, bit_mask, mask-of}
-use Rattle.masks.specs.SearchLaws.{lowest-le, lowest-holds, lowest-before, count-ext}
+use Rattle.masks.specs.SearchLaws.{lowest-holds, lowest-before}
 
 and-true : (a b : Bool) → (a && b) ≡ true → (a ≡ true) × (b ≡ true)
 and-true true b e = (refl, e)
@@ -15,7 +15,7 @@ carries : (a b : Bool) → (not a || b) ≡ true → a ≡ true → b ≡ true
 carries true b e p = e
 carries false b e p = let z : ◌≡◌ {A = Bool} false true = p in cc
 
-not-not : (t : Bool) → not (not t) ≡ t
+pub not-not : (t : Bool) → not (not t) ≡ t
 not-not true = refl
 not-not false = refl
 
@@ -60,7 +60,7 @@ unfolding rising
 edge-rising l zero = refl
 edge-rising l (suc k) = ap₂ ◌&&◌ (edge-step l k) (edge-rising l k)
 
-edge_count : (l k : ℕ) → count_of (λ n. ltb n l) k ≡ min k l
+pub edge_count : (l k : ℕ) → count_of (λ n. ltb n l) k ≡ min k l
 unfolding count_of
 edge_count l zero = omega arith
 edge_count l (suc k) =
@@ -72,7 +72,7 @@ edge_count l (suc k) =
 -- ---- the code's test `m == !below(k) && fsiz <= k`, with k by `lowest_of(m)` and b by `below(k)`
 
 module _ (m k b : ℕ) (fits : m < 65536) (low : k ≡ lowest (bit_of m) 0 16) (edge : b ≡ mask_of (λ n. ltb n k)) where
-  edge-bit : m ≡ 65535 - b → (n : ℕ) → n < 16 → bit_of m n ≡ not (ltb n k)
+  pub edge-bit : m ≡ 65535 - b → (n : ℕ) → n < 16 → bit_of m n ≡ not (ltb n k)
   edge-bit e n h = ap (λ (x : ℕ). bit_of x n) (e ∙ not-by-mask b (λ n. ltb n k) edge) ∙ bit_mask (λ n. not (ltb n k)) n h
 
   -- the mask is the edge's exactly where it rises
@@ -86,23 +86,6 @@ module _ (m k b : ℕ) (fits : m < 65536) (low : k ≡ lowest (bit_of m) 0 16) (
       ∙ sym (not-by-mask b (λ n. ltb n k) edge))))
       (λ q. p ∙ sym q))
 
-  -- and then as many bits are clear as lie below the edge
-  pub layout-count : m ≡ 65535 - b → count_of (λ n. not (bit_of m n)) 16 ≡ k
-  layout-count e =
-      count-ext (λ n. not (bit_of m n)) (λ n. ltb n k) 16 (omega arith) (λ n h. ap not (edge-bit e n h) ∙ not-not (ltb n k))
-      ∙ edge_count k 16
-      ∙ (let small : k ≤ 16 = omega (arith, lowest-le (bit_of m) 0 16 refl) in let h : min 16 k ≡ k = omega arith in h)
-
-  pub layout-then : m ≡ 65535 - b → (fsiz : ℕ) → leb fsiz k ≡ (rising (bit_of m) 15 && leb fsiz (count_of (λ n. not (bit_of m n)) 16))
-  layout-then e fsiz =
-      sym (ap₂ (λ (t : Bool) (x : ℕ). t && leb fsiz x) (sym layout-rising ∙ eq-eqb m (65535 - b) e) (layout-count e))
-
   pub layout-else : (m ≡ 65535 - b → ⊥) → (x : Bool) → eqb m (65535 - b) ≡ (rising (bit_of m) 15 && x)
   layout-else ne x =
       ne_eqb m (65535 - b) ne ∙ sym (ap (λ (t : Bool). t && x) (sym layout-rising ∙ ne_eqb m (65535 - b) ne))
-
-  pub layout-test : (fsiz : ℕ) → (eqb m (65535 - b) && leb fsiz k) ≡ (rising (bit_of m) 15 && leb fsiz (count_of (λ n. not (bit_of m n)) 16))
-  layout-test fsiz =
-      by-test (eqb m (65535 - b))
-      (λ p. ap (λ (t : Bool). t && leb fsiz k) p ∙ layout-then (eqb-true m (65535 - b) p) fsiz)
-      (λ p. ap (λ (t : Bool). t && leb fsiz k) p ∙ sym p ∙ layout-else (eqb-false m (65535 - b) p) (leb fsiz (count_of (λ n. not (bit_of m n)) 16)))

@@ -1,5 +1,7 @@
 // Masks of the sixteen buffers: bit n stands for buffer n.
 // Every function answers for every number: one from NONE on names no buffer.
+#![tactic(auto)]
+
 ghost use Rattle.std.specs.Prelude.{◌≡◌, ◌||◌, ◌&&◌, not, eqb, ltb, leb};
 ghost use Rattle.masks.specs.Bits.{bit_of, mask_of, put_bit, lowest, highest, some_of, count_of};
 

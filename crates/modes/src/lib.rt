@@ -1,4 +1,6 @@
 // Entering and leaving initialization, sleeping and waking, the write of $00, and the setters that writes and the bus share.
+#![tactic(auto)]
+
 ghost use Rattle.std.specs.Prelude.{◌≡◌};
 ghost use Rattle.rules.specs.Record.{with_mode, with_buffers, with_slprq, with_fifo};
 ghost use Rattle.rules.specs.Modes.{entered_mode, enter, left_mode, leave, wake, cancel, write_sleep, written_mode, write_mcr};
@@ -96,7 +98,6 @@ pub fn enter(c: Control) -> Control
     next.places.first = NONE;
     next.places.second = NONE;
     next.places.swapped = false;
-    next.places.unused = 0;
     next.buffers.iflg = 0;
     next.buffers.abtak = 0;
     next.buffers.armed = 0;

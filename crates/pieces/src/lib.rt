@@ -1,17 +1,19 @@
 // The line of a text that comes in pieces.
+#![tactic(auto)]
+
 ghost use Rattle.std.specs.Prelude.{◌≡◌, min, ◌+◌, ◌-◌, ◌≤◌, false, length};
 ghost use Rattle.pieces.specs.Feed.{none_held, number_after, is_read};
 ghost use Rattle.pieces.specs.CodeGather.{gather_from, gather_of, Clear};
 
 // The bytes of a line that is not ended yet: the first len of them. A length of 65 stands for any above 64.
-#[derive(Drop)]
+#[derive(Clone, Copy)]
 pub struct Held {
     pub bytes: [u8; 64],
     pub len: u8,
 }
 
 // What is held after a part of a piece, the index up to which the bytes were taken, and whether an LF stands there.
-#[derive(Drop)]
+#[derive(Clone, Copy)]
 pub struct Gathered {
     pub held: Held,
     pub at: usize,

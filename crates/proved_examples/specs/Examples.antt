@@ -1,11 +1,10 @@
 -- Document 01, 'Proved examples': one table, one statement.
-use Rattle.std.specs.Prelude.{◌≡◌, refl, ℕ, ◌^◌, Bool, true, List, [], ◌∷◌, map, get_or, replicate}
+use Rattle.std.specs.Prelude.{◌≡◌, refl, ℕ, ◌^◌, Bool, true, List, [], ◌∷◌, map, replicate}
 use Rattle.masks.specs.Pick.{pick}
 use Rattle.masks.specs.Bits.{bit_of, lowest, highest, count_of, rising}
 use Rattle.filter.specs.declared.Filter.{Filter}
 use Rattle.filter.specs.Match.{agrees, matches}
 use Rattle.contents.specs.Bytes.{head_of, store_frame}
-use Rattle.rules.specs.declared.Buffers.{Buffers}
 use Rattle.rules.specs.declared.Control.{Control}
 use Rattle.rules.specs.Record.{with_config, with_buffers, with_fsiz}
 use Rattle.rules.specs.Registers.{reset_control}

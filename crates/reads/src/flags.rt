@@ -87,6 +87,7 @@ pub fn gisr(c: Control) -> u8
 }
 
 // The five interrupt lines. Each is some flag with its enable: the general line one of $07, or SLMMIF.
+#[tactic(auto, unfolding(rules::specs::Flags::lines_of))]
 pub fn lines(c: Control) -> u8
     ensures { result ≡ lines_of c }
 {

@@ -27,6 +27,7 @@ pub fn mcr(slpak: bool, m: Mode) -> u8
 }
 
 // $12: a transmit buffer is locked, a dedicated receive buffer is.
+#[tactic(auto, unfolding(rules::specs::Reads::buflock))]
 pub fn buflock(c: Control) -> u8
     ensures { result ≡ buflock c }
 {
@@ -50,6 +51,7 @@ pub fn bufctl(c: Control, n: u8) -> u8
 }
 
 // What a register reads. A window's bytes are none of the control state: it reads 0 here.
+#[tactic(auto, unfolding(rules::specs::Reads::value_of))]
 pub fn value_of(c: Control, register: Register) -> u8
     ensures { result ≡ value_of c register }
 {

@@ -1,5 +1,7 @@
 // A frame that comes as a slice, and a buffer's contents after it is stored.
 // The fourteen bytes are returned by value; each function answers for every argument.
+#![tactic(auto)]
+
 ghost use Rattle.std.specs.Prelude.{◌≡◌, get_or};
 ghost use Rattle.contents.specs.Code.{well_sized};
 ghost use Rattle.contents.specs.Bytes.{store_frame, image_of};

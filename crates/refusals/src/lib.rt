@@ -1,5 +1,7 @@
 // The refusals of register calls: each as a test, and the lowest number that applies. Those of the control registers, which test
 // code writes most, are judged in one pass.
+#![tactic(auto)]
+
 ghost use Rattle.std.specs.Prelude.{ℕ, ◌+◌, ◌%◌, ◌≤◌, ◌<◌, ◌&&◌, ◌≡◌, eqb};
 ghost use Rattle.masks.specs.Bits.{some_of};
 ghost use Rattle.rules.specs.Registers.{between};
@@ -19,12 +21,14 @@ fn between(low: u8, a: u8, high: u8) -> bool
 }
 
 // 3: a register that only reads.
+#[tactic(auto, unfolding(rules::specs::Refusals::refuses3))]
 fn refuses3(a: u8) -> bool
     ensures { result ≡ refuses3 a }
 {
     a == 0x0A || a == 0x0B || a == 0x0E || a == 0x12 || between(0x40, a, 0x4D)
 }
 
+#[tactic(auto, unfolding(rules::specs::Refusals::only_in_init))]
 fn only_in_init(a: u8) -> bool
     ensures { result ≡ only_in_init a }
 {
@@ -51,6 +55,7 @@ fn refuses2(c: Control, a: u8) -> bool
 }
 
 // 4: a register that is written in initialization only.
+#[tactic(auto, unfolding(rules::specs::Refusals::refuses4))]
 fn refuses4(c: Control, a: u8) -> bool
     ensures { result ≡ refuses4 c a }
 {
@@ -58,6 +63,7 @@ fn refuses4(c: Control, a: u8) -> bool
 }
 
 // 5: a window with no holder.
+#[tactic(auto, unfolding(rules::specs::Refusals::refuses5))]
 fn refuses5(c: Control, a: u8) -> bool
     ensures { result ≡ refuses5 c a }
 {
@@ -83,6 +89,7 @@ fn refuses7(c: Control, a: u8, v: u8) -> bool
 }
 
 // 8: leaving initialization with an unlawful layout.
+#[tactic(auto, unfolding(rules::specs::Refusals::refuses8))]
 fn refuses8(c: Control, a: u8, v: u8) -> bool
     ensures { result ≡ refuses8 c a v }
 {
@@ -167,18 +174,16 @@ pub fn window_refusal(c: Control, a: u8) -> u8
     ensures { (v : ℕ) → 0x20 ≤ a → a < 0x50 → result ≡ write_refusal c a v }
 {
     if refuses2(c, a) {
-        return 2;
+        2
+    } else if refuses3(a) {
+        3
+    } else if refuses4(c, a) {
+        4
+    } else if refuses5(c, a) {
+        5 // nobody holds it
+    } else {
+        0
     }
-    if refuses3(a) {
-        return 3;
-    }
-    if refuses4(c, a) {
-        return 4;
-    }
-    if refuses5(c, a) {
-        return 5; // nobody holds it
-    }
-    0
 }
 
 // The refusal of a register write, 0 for none.
@@ -192,7 +197,7 @@ pub fn write_refusal(c: Control, a: u8, v: u8) -> u8
         return 2;
     }
     if refuses3(a) {
-        return 3; // it only reads
+        return 3;
     }
     if refuses4(c, a) {
         return 4;

@@ -1,64 +1,67 @@
 // How many lines were read so far, on standard error where that is a terminal, and never otherwise.
-use crate::console::{say, tell};
-use libc::{STDERR_FILENO, STDOUT_FILENO};
+use crate::console::{Source, say};
+use std::io::IsTerminal;
+use std::rt::Clock;
 
 // Whether it is shown at all, whether it stands on the terminal now, whether rows go there too; when it was shown last, and how many
 // lines there were.
-#[derive(Drop)]
+#[derive(Clone, Copy)]
 pub(crate) struct Progress {
     on: bool,
     stands: bool,
     shared: bool,
-    second: i64,
+    second: u64,
     lines: u32,
 }
 
-fn now() -> i64 {
-    let mut second: i64 = 0;
-    libc::time(&mut second)
+// The clock's second, which only has to change: 0 where there is no clock.
+fn now(rt: &impl Clock) -> u64 {
+    match rt.since_1970() {
+        Ok(time) => time.as_secs(),
+        Err(_) => 0,
+    }
 }
 
 // Where the recording is typed in, none is shown: it would stand where the next line is typed.
-pub(crate) fn start(input: i32) -> Progress {
+pub(crate) fn start(rt: &HostRuntime, input: &Source) -> Progress {
     Progress {
-        on: libc::isatty(STDERR_FILENO) == 1 && libc::isatty(input) != 1,
+        on: rt.stderr().is_terminal() && !input.is_typed(),
         stands: false,
-        shared: libc::isatty(STDOUT_FILENO) == 1,
-        second: now(),
+        shared: rt.stdout().is_terminal(),
+        second: now(rt),
         lines: 0,
     }
 }
 
 // Takes it off the terminal, for a message or for rows.
-pub(crate) fn cleared(p: Progress) -> Progress {
+pub(crate) fn cleared(rt: &impl Eprint, p: Progress) -> Progress {
     if !p.stands {
         return p;
     }
-    say(b"                                        \r");
+    say(rt, "                                        \r");
     let mut next = p;
     next.stands = false;
     next
 }
 
 // Takes it off for rows.
-pub(crate) fn before_rows(p: Progress) -> Progress {
-    if p.shared { cleared(p) } else { p }
+pub(crate) fn before_rows(rt: &impl Eprint, p: Progress) -> Progress {
+    if p.shared { cleared(rt, p) } else { p }
 }
 
 // Shows it again after a second, or a hundred thousand lines.
-pub(crate) fn after(p: Progress, lines: u32) -> Progress {
+pub(crate) fn after(rt: &HostRuntime, p: Progress, lines: u32) -> Progress {
     if !p.on {
         return p;
     }
-    let second = now();
+    let second = now(rt);
     if second == p.second {
         if lines / 100000 == p.lines / 100000 {
             return p;
         }
     }
     // the next message begins where this one does, and is longer
-    tell(STDERR_FILENO, b"hevrukan: lines so far: ", lines);
-    say(b"\r");
+    say(rt, format_args!("hevrukan: lines so far: {lines}\r"));
     Progress {
         on: true,
         stands: true,

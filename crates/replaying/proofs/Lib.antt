@@ -1,4 +1,1 @@
 pub mod AnswerLaws
-pub mod Again
-pub mod Local
-pub mod Bytes

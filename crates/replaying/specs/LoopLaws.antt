@@ -1,6 +1,6 @@
 -- Laws of the loop over a piece's lines: bytes gathered, a line's end, and the turns of the loop.
-use Prim.Native.Nat.{ℕ, zero, suc, ◌+◌, ◌-◌, ◌≤◌, ◌<◌, min, max}
-use Rattle.std.proofs.Common.{arith, add-one, subst, ◌∙◌, length-drop, drop_of_length-le, drop-cons}
+use Prim.Native.Nat.{ℕ, zero, suc, ◌+◌, ◌-◌, ◌≤◌, ◌<◌, min}
+use Rattle.std.proofs.Common.{arith, add-one, ◌∙◌, length-drop, drop_of_length-le, drop-cons}
 use Rattle.std.specs.Prelude.{◌≡◌, refl, Bool, false, ◌&&◌, ◌⊎◌, take, drop, get_or, replicate, ltb, leb, eqb}
 use Rattle.std.proofs.Math.Path.{sym, ap}
 use Rattle.std.proofs.Math.Bool.{true}
@@ -35,7 +35,7 @@ use Rattle.report.specs.NumberLaws.{number-next, row-numbered, unread-numbered}
 use Rattle.report.specs.Laws.{none, then, kept, fits, length-row, length-unread, frame-sent}
 use Rattle.pieces.specs.declared.Held.{Held}
 use Rattle.pieces.specs.declared.Gathered.{Gathered}
-use Rattle.pieces.specs.Feed.{Feed, none_held, push_of, line_in, number_after, is_read, end_line, feed_end, out_of}
+use Rattle.pieces.specs.Feed.{Feed, none_held, push_of, line_in, number_after, is_read, end_line, out_of}
 use Rattle.pieces.specs.CodeGather.{gather_from, gather_of}
 use Rattle.pieces.specs.GatherLaws.{Stops, stops as gather-stops, stops-within, gather-end, gather-out, lf-end, lf-out}
 use Rattle.pieces.specs.TakenLaws.{gather-taken, lf-taken}

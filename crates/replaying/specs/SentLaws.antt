@@ -28,7 +28,8 @@ use Rattle.rules.specs.Refusals.{refusal}
 use Rattle.rules.specs.Steps.{Step, slot, room_in, hide}
 use Rattle.rules.specs.Plan.{Reply, say, show, send, Plan}
 use Rattle.rules.specs.Rules.{on_bus, act, decide}
-use Rattle.rules.specs.SendingLaws.{says_sent, never-says-sent}
+use Rattle.rules.specs.SendingLaws.{says_sent}
+use Rattle.rules.proofs.SendingLaws.{never-says-sent}
 use Rattle.controller.specs.declared.Controller.{Controller}
 use Rattle.controller.specs.declared.Call.{Call}
 use Rattle.controller.specs.declared.Call.TheVariants.{Reset, Read, Write, Sync, SyncDue, Slot, Frame, Fault, Timeout}

@@ -2,7 +2,7 @@
 use Rattle.std.specs.Prelude.{ℕ, zero, suc, ◌+◌, ◌-◌, ◌≤◌, ◌<◌, ◌≡◌, Bool, true, false, ◌&&◌, ◌⊎◌, List, [], ◌∷◌, ◌++◌, length, take, drop, get_or, set, replicate, leb, ltb, eqb}
 use Rattle.std.proofs.Common.{arith, zero-add, add-one, subst, ◌∙◌, inl, inr, append-nil, le-leb, lt-ltb, le-ltb, ltb-true, ltb-false, leb-true, leb-false, eq-eqb, ne_eqb, length-append, length-set, length-drop, drop_of_length-le, take_all, take-suc, take-suc-set, length-take-le, get_or-drop, get_or-take}
 use Rattle.std.proofs.Math.Path.{refl, sym, ap}
-use Rattle.std.proofs.lemmas.Bool.{lt-leb, not-true, not-false}
+use Rattle.std.proofs.lemmas.Bool.{lt-leb}
 use Rattle.std.proofs.Math.Seq.{take-append_seam}
 use Rattle.masks.specs.Pick.{pick}
 use Rattle.masks.specs.PickLaws.{pick_true, pick-false, pick-keeps, by-test}
@@ -14,7 +14,7 @@ use Rattle.lines.specs.Laws.{over-unread}
 use Rattle.lines.specs.Found.{lf_in}
 use Rattle.lines.specs.FoundLaws.{lf-first, lf-unread}
 use Rattle.report.specs.Text.{Put, Wrote, fitting, heading_of}
-use Rattle.report.specs.Laws.{none, wrote, kept, fits, tight, length-heading}
+use Rattle.report.specs.Laws.{none, wrote, fits, tight, length-heading}
 use Rattle.pieces.specs.declared.Held.{Held}
 use Rattle.pieces.specs.declared.Gathered.{Gathered}
 use Rattle.pieces.specs.Feed.{Feed, none_held, line_in, is_read, number_after, end_line, byte_s, byte_o, feed_end, out_of, taken_of, last_of}
@@ -29,8 +29,8 @@ use Rattle.replaying.specs.declared.At.{At}
 use Rattle.replaying.specs.declared.Joined.{Joined}
 use Rattle.replaying.specs.Replay.{played_by, row_by, play, show_row}
 use Rattle.replaying.specs.Session.{feed_of, Feeds, finished_of, Finishes, counted_by, last_counted}
-use Rattle.replaying.specs.CodeLoop.{over_text, shown_if, shown_by, need_of, goes_on, opened, resumed, closed, end_at, feed_at, taken_by, Open, Over, Standing, Plays, Joins, FedBy}
-use Rattle.replaying.specs.LoopLaws.{row_small, show-small, goes-ready, goes-not, end-high, end-lf, end_is, end-past, line-held, reaches, open-reaches, open-passes}
+use Rattle.replaying.specs.CodeLoop.{over_text, shown_if, shown_by, need_of, opened, resumed, closed, end_at, feed_at, taken_by, Open, Over, Standing, Plays, Joins, FedBy}
+use Rattle.replaying.specs.LoopLaws.{row_small, show-small, goes-ready, goes-not, end-lf, end_is, end-past, line-held, reaches, open-reaches, open-passes}
 
 -- ---- where a session stands in a piece
 
@@ -375,7 +375,7 @@ silent f (b ∷ bs) = ap (λ (l : List ℕ). l ++ out_of play (shown_by false) (
 end-any : (f : Feed Player) (t : List ℕ) → feed_end play (shown_by false) f t ≡ feed_end play show_row f t
 unfolding feed_end byte_s end_line
 end-any f [] = refl
-end-any f (b ∷ bs) = end-any _ bs
+end-any f (b ∷ bs) = end-any (byte_s play show_row f b) bs
 
 pub counts : (s : Session) (piece out : List ℕ) {r : Fed} {out' : List ℕ} → FedBy false s piece out r out' → feed_of r.session ≡ counted_by s piece
 counts s piece out {r} w =

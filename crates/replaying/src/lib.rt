@@ -1,4 +1,6 @@
 // The replay of a recording that comes in pieces: rows of the report out, or nothing but the counts.
+#![tactic(auto)]
+
 mod piece_loop;
 mod turns;
 
@@ -13,21 +15,21 @@ use pieces::Held;
 use report::Number;
 
 // How many lines were no step, and how many steps were refused.
-#[derive(Drop)]
+#[derive(Clone, Copy)]
 pub struct Tally {
     pub unread: u32,
     pub refused: u32,
 }
 
 // The controller that the lines go into.
-#[derive(Drop)]
+#[derive(Clone, Copy)]
 pub struct Player {
     pub controller: Controller,
     pub tally: Tally,
 }
 
 // What is kept between two pieces: the player, the line that is not ended yet, and the number of that line.
-#[derive(Drop)]
+#[derive(Clone, Copy)]
 pub struct Session {
     pub player: Player,
     pub held: Held,
@@ -35,7 +37,7 @@ pub struct Session {
 }
 
 // The session after a piece, how many of the piece's bytes were taken, and how many bytes of rows they gave.
-#[derive(Drop)]
+#[derive(Clone, Copy)]
 pub struct Fed {
     pub session: Session,
     pub taken: usize,
@@ -43,7 +45,7 @@ pub struct Fed {
 }
 
 // The session after the last line, and how many bytes its row has.
-#[derive(Drop)]
+#[derive(Clone, Copy)]
 pub struct Finished {
     pub session: Session,
     pub written: usize,
@@ -52,7 +54,7 @@ pub struct Finished {
 // Where the loop over a piece's lines stands, all but the controller: the line's number as its row shows it, the index of its first byte,
 // the index behind the last row, the counts, its number, the five lines, whether the loop goes on, and whether rows are written. No line's
 // bytes are kept here.
-#[derive(Drop)]
+#[derive(Clone, Copy)]
 struct At {
     digits: Number,
     from: usize,
@@ -65,14 +67,14 @@ struct At {
 }
 
 // The controller after a piece's lines, and where their loop then stands.
-#[derive(Drop)]
+#[derive(Clone, Copy)]
 struct Lent {
     controller: Controller,
     at: At,
 }
 
 // A line with its LF: the first size bytes.
-#[derive(Drop)]
+#[derive(Clone, Copy)]
 struct Joined {
     text: [u8; 66],
     size: usize,

@@ -1,16 +1,15 @@
 -- What the test for 64 bytes of room tells of the text that is written.
-use Rattle.std.proofs.Common.{◌≡◌, ℕ, ◌+◌, ◌≤◌, Bool, true, false, not, leb, List, length, sym, ◌∙◌, leb-false, leb-true}
-use borrow.Author.Tests.{not-true, not-false}
+use Rattle.std.proofs.Common.{◌≡◌, ℕ, ◌+◌, ◌≤◌, Bool, true, false, leb, List, length, sym, ◌∙◌, leb-false, leb-true}
 use Rattle.report.specs.Text.{Put, fitting}
 use Rattle.report.specs.Laws.{none, fits, tight}
 
-pub enough : {t : Bool} {m n : ℕ} → t ≡ leb m n → not t ≡ false → m ≤ n
-enough {t} {m} {n} e f = leb-true m n (sym e ∙ not-false t f)
+pub enough : {t : Bool} {m n : ℕ} → t ≡ leb m n → t ≡ true → m ≤ n
+enough {t} {m} {n} e f = leb-true m n (sym e ∙ f)
 
 -- the text whole
-pub whole : {t : Bool} {o : List ℕ} {at : ℕ} {xs p : List ℕ} {r : ℕ} → t ≡ leb (at + 64) (length o) → not t ≡ false → Put o at xs p r → Put o at (fitting o at xs) p r
+pub whole : {t : Bool} {o : List ℕ} {at : ℕ} {xs p : List ℕ} {r : ℕ} → t ≡ leb (at + 64) (length o) → t ≡ true → Put o at xs p r → Put o at (fitting o at xs) p r
 whole {t} {o} {at} {xs} e f q = rw (fits o at xs (enough e f)) q
 
 -- or nothing
-pub nothing : {t : Bool} {o : List ℕ} {at : ℕ} (xs : List ℕ) → t ≡ leb (at + 64) (length o) → not t ≡ true → Put o at (fitting o at xs) o at
-nothing {t} {o} {at} xs e f = rw (tight o at xs (leb-false (at + 64) (length o) (sym e ∙ not-true t f))) (none o at)
+pub nothing : {t : Bool} {o : List ℕ} {at : ℕ} (xs : List ℕ) → t ≡ leb (at + 64) (length o) → t ≡ false → Put o at (fitting o at xs) o at
+nothing {t} {o} {at} xs e f = rw (tight o at xs (leb-false (at + 64) (length o) (sym e ∙ f))) (none o at)

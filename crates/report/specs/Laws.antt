@@ -1,7 +1,6 @@
 -- Laws of the report's text: texts put one behind the other, rooms that are long enough, and how long a row can be.
 use Rattle.std.specs.Prelude.{◌≡◌, ℕ, zero, suc, ◌+◌, ◌/◌, ◌%◌, ◌<◌, ◌≤◌, max, Bool, true, false, List, [], ◌∷◌, ◌++◌, length, take, drop, set, replicate, nat_le, nat_lt, slice_index, slice_index_or, slice_set, refl}
-use Rattle.std.proofs.Common.{le_of_lt, zero-add, add-zero, add-suc, suc-add, add_assoc, add-one, arith, sym, ap, ◌∙◌, append_assoc, append-nil, leb-true, le-leb, length-append, length-take, length-set, take-suc, take_at, take_all, drop_at, length-take-le, set-set}
-use Rattle.std.proofs.Math.Nat.{min-le_left}
+use Rattle.std.proofs.Common.{le_of_lt, zero-add, add-zero, add-suc, suc-add, add_assoc, add-one, arith, sym, ap, ◌∙◌, append_assoc, append-nil, leb-true, le-leb, length-append, length-set, take-suc, take_at, take_all, drop_at, length-take-le, set-set}
 use Rattle.std.proofs.lemmas.Bool.{lt-leb}
 use Rattle.std.proofs.lemmas.List.{length-replicate, set_comm}
 use Rattle.std.proofs.lemmas.List.Edits.{sets, sets-eq}

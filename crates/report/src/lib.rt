@@ -1,4 +1,6 @@
 // The report's heading and rows, written into a lent room at an index. A row is written whole or not at all.
+#![tactic(auto)]
+
 mod puts;
 mod texts;
 
@@ -11,7 +13,7 @@ use rules::Answer;
 
 // A line's number, kept as digits, so that the next line's is a sum and not a division for each digit. All fields are eight bytes
 // wide: no padding to copy.
-#[derive(Drop)]
+#[derive(Clone, Copy)]
 pub struct Number {
     // the decimal digits and a tab behind them, the first in the lowest byte
     pub digits: u64,

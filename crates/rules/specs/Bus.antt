@@ -9,7 +9,7 @@ use Rattle.rules.specs.declared.SyncKind.{SyncKind}
 use Rattle.rules.specs.declared.SyncKind.TheVariants.{Normal, Alarm}
 use Rattle.rules.specs.declared.Fault.{Fault}
 use Rattle.rules.specs.declared.Fault.TheVariants.{Early, Lost, Illegal, Mismatch}
-use Rattle.rules.specs.declared.Answer.TheVariants.{Ok, Stored, Queued, Waiting, HeldOff, Pulse, Overrun, Unmatched, BadFrame, Ignored, Woke, NotSent}
+use Rattle.rules.specs.declared.Answer.TheVariants.{Stored, Queued, Waiting, HeldOff, Pulse, Overrun, Unmatched, BadFrame, Ignored, NotSent}
 use Rattle.rules.specs.declared.Events.{Events}
 use Rattle.rules.specs.declared.Fifo.{Fifo}
 use Rattle.rules.specs.declared.Control.{Control}
@@ -19,7 +19,7 @@ use Rattle.rules.specs.Kinds.{is_receive, is_armed, is_locked, is_full_transmit,
 use Rattle.rules.specs.Waiting.{is_free, occupied}
 use Rattle.rules.specs.Flags.{cleared}
 use Rattle.rules.specs.Modes.{disarm_all, wake, cancel}
-use Rattle.rules.specs.Plan.{head_at, Move, store, hold, Reply, say, send, Plan, plain, with_looked}
+use Rattle.rules.specs.Plan.{head_at, store, hold, say, send, Plan, plain, with_looked}
 
 -- ---- event flags
 

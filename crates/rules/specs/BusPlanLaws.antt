@@ -1,14 +1,14 @@
--- The plans of frames and slots: a frame's stores it in the buffer that its answer names, lets it wait, or moves no byte; a slot's answers, or sends
--- a buffer's frame.
-use Rattle.std.specs.Prelude.{◌≡◌, refl, ℕ, ◌<◌, Bool, true, false, List, [], ◌∷◌}
+-- The plans of frames and slots: a frame's stores it in the buffer that its answer names, lets it wait, or moves no byte (of all that
+-- comes in, in proofs/BusPlanLaws.antt); a slot's answers, or sends a buffer's frame.
+use Rattle.std.specs.Prelude.{◌≡◌, refl, ℕ, ◌<◌, true, false, List, [], ◌∷◌}
 use Rattle.std.proofs.Common.{arith, eq-eqb}
 use Rattle.masks.specs.PickLaws.{pick-keeps}
 use Rattle.contents.specs.Bytes.{Head}
 use Rattle.rules.specs.declared.Answer.{Answer}
 use Rattle.rules.specs.declared.Control.{Control}
-use Rattle.rules.specs.Bus.{to_place, to_buffer, to_fifo, found, judged, received, send_from, slot_for, slotted}
+use Rattle.rules.specs.Bus.{to_place, to_buffer, to_fifo, send_from, slot_for, slotted}
 use Rattle.rules.specs.Answers.{is_put, is_put_in, is_held, is_looked_up}
-use Rattle.rules.specs.Steps.{slot, frame}
+use Rattle.rules.specs.Steps.{slot}
 use Rattle.rules.specs.Plan.{store, hold, say, send, Plan, plain, with_looked}
 use Rattle.rules.specs.Rules.{on_bus, act, decide}
 
@@ -20,37 +20,23 @@ pub data FramePlan : Plan → Type 0 where
   puts : (c : Control) (n : ℕ) (a : Answer) (k : ℕ) → is_put_in n a ≡ true →
       FramePlan (record { control = c; moves = store n ∷ []; reply = say a; looked = k })
 
-counted-plan : {p : Plan} (k : ℕ) → FramePlan p → FramePlan (with_looked p k)
+pub counted-plan : {p : Plan} (k : ℕ) → FramePlan p → FramePlan (with_looked p k)
 counted-plan k (drops c a j e f) = drops c a k e f
 counted-plan k (waits c j a i h e) = waits c j a k h e
 counted-plan k (puts c n a j e) = puts c n a k e
 
-buffer-plan : (c : Control) (n : ℕ) → FramePlan (to_buffer c n)
+pub buffer-plan : (c : Control) (n : ℕ) → FramePlan (to_buffer c n)
 unfolding to_buffer to_place
 buffer-plan c n =
     pick-keeps FramePlan _
     (λ t. pick-keeps FramePlan _ (λ u. waits _ 0 _ 0 (omega arith) refl) (λ u. pick-keeps FramePlan _ (λ x. waits _ 1 _ 0 (omega arith) refl) (λ x. drops _ _ 0 refl refl)))
     (λ t. puts _ n _ 0 (eq-eqb n n refl))
 
-fifo-plan : (c : Control) (i : ℕ) → FramePlan (to_fifo c i)
+pub fifo-plan : (c : Control) (i : ℕ) → FramePlan (to_fifo c i)
 unfolding to_fifo
 fifo-plan c i =
     pick-keeps FramePlan _
     (λ t. pick-keeps FramePlan _ (λ u. drops _ _ 0 refl refl) (λ u. puts _ c.fifo.next _ 0 (eq-eqb c.fifo.next c.fifo.next refl)))
-    (λ t. drops _ _ 0 refl refl)
-
-judged-plan : (c : Control) (good : Bool) (i n : ℕ) → FramePlan (judged c good i n)
-unfolding judged found
-judged-plan c good i n =
-    pick-keeps FramePlan _ (λ t. drops _ _ 0 refl refl)
-    (λ t. pick-keeps FramePlan _ (λ u. drops _ _ 0 refl refl)
-    (λ u. counted-plan _ (pick-keeps FramePlan _ (λ x. buffer-plan _ n) (λ x. fifo-plan _ i))))
-
-pub frame-plan : (c : Control) (hs : List Head) (good : Bool) (f : List ℕ) → FramePlan (decide c hs (frame good f))
-unfolding decide act on_bus received
-frame-plan c hs good f =
-    pick-keeps FramePlan _
-    (λ t. pick-keeps FramePlan _ (λ u. drops _ _ 0 refl refl) (λ u. pick-keeps FramePlan _ (λ x. drops _ _ 0 refl refl) (λ x. judged-plan c good _ _)))
     (λ t. drops _ _ 0 refl refl)
 
 -- ---- slots

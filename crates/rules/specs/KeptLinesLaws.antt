@@ -1,6 +1,6 @@
--- The answers after which the five lines are as they were, from any state: a read, what changes nothing, and a frame or a slot that
--- changes no more than the last identifier.
-use Rattle.std.specs.Prelude.{◌≡◌, ℕ, Bool, true, false, ◌&&◌, ◌||◌, not, List, get_or, leb}
+-- Towards proofs/KeptLinesLaws.antt: the answers after which the five lines are as they were, and the plans that are answered so, but
+-- for a frame's.
+use Rattle.std.specs.Prelude.{◌≡◌, ℕ, Bool, true, false, ◌&&◌, ◌||◌, not, List, leb}
 use Rattle.std.proofs.Math.Path.{refl}
 use Rattle.std.proofs.Common.{sym, ◌∙◌}
 use Rattle.std.proofs.lemmas.Bool.{false≢true}
@@ -18,12 +18,10 @@ use Rattle.rules.specs.Kinds.{is_locked, lockif}
 use Rattle.rules.specs.Flags.{receive_pending, transmit_pending, rxif, txif, risr, gisr, lines_of}
 use Rattle.rules.specs.Waiting.{asleep, is_free}
 use Rattle.rules.specs.Modes.{cancel}
-use Rattle.rules.specs.Bus.{due_sync, lookup, to_place, to_buffer, fifo_takes, to_fifo, raise_last, found, judged, received, offers, send_from, slot_for, slotted}
-use Rattle.rules.specs.Refusals.{refusal}
+use Rattle.rules.specs.Bus.{due_sync, to_place, to_buffer, fifo_takes, to_fifo, raise_last, offers, send_from, slot_for, slotted}
 use Rattle.rules.specs.Answers.{word_of, HELDOFF, WAITING, UNMATCHED, changes_nothing}
-use Rattle.rules.specs.Steps.{Step, reset, read, write, sync, sync_due, slot, frame, fault, timeout}
-use Rattle.rules.specs.Plan.{Reply, say, show, send, Plan, plain, with_looked}
-use Rattle.rules.specs.Rules.{on_bus, act, decide}
+use Rattle.rules.specs.Plan.{Reply, say, show, send, Plan, with_looked}
+use Rattle.rules.specs.Rules.{on_bus}
 
 -- ---- those answers
 
@@ -59,7 +57,7 @@ keeps_by (send n) = false
 -- ---- the plans that are answered so
 
 -- the last identifier is in no flag, nor is SLPRQ
-raise-kept : (c : Control) (i : ℕ) → lines_of (raise_last (cancel c) i) ≡ lines_of c
+pub raise-kept : (c : Control) (i : ℕ) → lines_of (raise_last (cancel c) i) ≡ lines_of c
 unfolding lines_of risr gisr rxif txif receive_pending transmit_pending lockif raise_last cancel
 raise-kept c i = refl
 
@@ -69,37 +67,37 @@ unfolding lines_of risr gisr rxif txif receive_pending transmit_pending lockif
 hold-kept c p = refl
 
 -- a plan that leaves the lines of c if it is answered so
-record Kept (c : Control) (p : Plan) : Type 0 where
-  kept : keeps_by p.reply ≡ true → lines_of p.control ≡ lines_of c
+pub record Kept (c : Control) (p : Plan) : Type 0 where
+  pub kept : keeps_by p.reply ≡ true → lines_of p.control ≡ lines_of c
 
 module _ (c : Control) where
   -- an answer of another kind, and a state with the same lines
-  other : (p : Plan) → keeps_by p.reply ≡ false → Kept c p
+  pub other : (p : Plan) → keeps_by p.reply ≡ false → Kept c p
   other p e = record { kept = λ t. absurd (false≢true (sym e ∙ t)) }
 
-  same : (p : Plan) → lines_of p.control ≡ lines_of c → Kept c p
+  pub same : (p : Plan) → lines_of p.control ≡ lines_of c → Kept c p
   same p e = record { kept = λ t. e }
 
   -- a count is in no flag
-  counted-kept : (p : Plan) (k : ℕ) → Kept c p → Kept c (with_looked p k)
+  pub counted-kept : (p : Plan) (k : ℕ) → Kept c p → Kept c (with_looked p k)
   counted-kept p k s = record { kept = s.kept }
 
-  bus-kept : (x y : Plan) → Kept c x → Kept c y → Kept c (on_bus c x y)
+  pub bus-kept : (x y : Plan) → Kept c x → Kept c y → Kept c (on_bus c x y)
   unfolding on_bus
   bus-kept x y p q = pick-keeps (Kept c) c.mode.init (λ t. same _ refl) (λ t. pick-keeps (Kept c) (asleep c) (λ u. p) (λ u. q))
 
-  due-kept : (hs : List Head) → Kept c (due_sync c hs)
+  pub due-kept : (hs : List Head) → Kept c (due_sync c hs)
   unfolding due_sync keeps_lines
   due-kept hs = pick-keeps (Kept c) c.mode.master (λ t. other _ refl) (λ t. same _ refl)
 
-  slot_kept : (hs : List Head) (i : ℕ) → Kept c (slotted c hs i)
+  pub slot_kept : (hs : List Head) (i : ℕ) → Kept c (slotted c hs i)
   unfolding slotted slot_for send_from
   slot_kept hs i =
       let n = highest (offers c hs i) 16 in
       pick-keeps (Kept c) (not c.mode.synced) (λ t. same _ refl)
       (λ t. pick-keeps (Kept c) (ltb c.mode.last i && ltb n 16) (λ u. other _ refl) (λ u. same _ refl))
 
-  buffer-kept : (d : Control) (n : ℕ) → lines_of d ≡ lines_of c → Kept c (to_buffer d n)
+  pub buffer-kept : (d : Control) (n : ℕ) → lines_of d ≡ lines_of c → Kept c (to_buffer d n)
   unfolding to_buffer to_place keeps_lines
   buffer-kept d n e =
       pick-keeps (Kept c) (is_locked d n)
@@ -107,36 +105,8 @@ module _ (c : Control) where
       (λ u. pick-keeps (Kept c) (is_free d 1) (λ x. same _ (hold-kept d _ ∙ e)) (λ x. same _ e)))
       (λ t. other _ refl)
 
-  fifo-kept : (d : Control) (i : ℕ) → lines_of d ≡ lines_of c → Kept c (to_fifo d i)
+  pub fifo-kept : (d : Control) (i : ℕ) → lines_of d ≡ lines_of c → Kept c (to_fifo d i)
   unfolding to_fifo keeps_lines
   fifo-kept d i e =
       pick-keeps (Kept c) (fifo_takes d i)
       (λ t. pick-keeps (Kept c) (leb d.config.fsiz d.fifo.count) (λ u. other _ refl) (λ u. other _ refl)) (λ t. same _ e)
-
-  frame-kept : (hs : List Head) (good : Bool) (i : ℕ) → Kept c (received c hs good i)
-  unfolding received judged found keeps_lines
-  frame-kept hs good i =
-      let n = lookup c hs i in
-      let e = raise-kept c i in
-      pick-keeps (Kept c) (not c.mode.synced) (λ t. same _ refl)
-      (λ t. pick-keeps (Kept c) (not good || eqb i 0) (λ u. other _ refl)
-      (λ u. counted-kept _ _ (pick-keeps (Kept c) (ltb n 16) (λ x. buffer-kept (raise_last (cancel c) i) n e) (λ x. fifo-kept (raise_last (cancel c) i) i e))))
-
-  act-kept : (hs : List Head) (e : Step) → Kept c (act c hs e)
-  unfolding act keeps_lines
-  act-kept hs reset = other _ refl
-  act-kept hs (read a) = same _ refl
-  act-kept hs (write a v) = other _ refl
-  act-kept hs (sync k) = bus-kept _ _ (other _ refl) (other _ refl)
-  act-kept hs sync_due = bus-kept _ _ (same _ refl) (due-kept hs)
-  act-kept hs (slot i room) = bus-kept _ _ (same _ refl) (slot_kept hs i)
-  act-kept hs (frame good f) = bus-kept _ _ (other _ refl) (frame-kept hs good (get_or f 0 0))
-  act-kept hs (fault k) = bus-kept _ _ (other _ refl) (other _ refl)
-  act-kept hs timeout = bus-kept _ _ (same _ refl) (other _ refl)
-
-  decide-kept : (hs : List Head) (e : Step) → Kept c (decide c hs e)
-  unfolding decide
-  decide-kept hs e = pick-keeps (Kept c) (eqb (refusal c e) 0) (λ t. act-kept hs e) (λ t. same _ refl)
-
-  pub decide-keeps : (hs : List Head) (e : Step) → keeps_by (decide c hs e).reply ≡ true → lines_of (decide c hs e).control ≡ lines_of c
-  decide-keeps hs e = (decide-kept hs e).kept

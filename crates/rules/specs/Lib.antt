@@ -16,7 +16,6 @@ pub mod Rules
 pub mod Untouched
 -- final statements
 pub mod Hidden
-pub mod OpenFilters
 -- nothing to believe: laws, and the code's own definitions
 pub mod AnswerLaws
 pub mod HiddenLaws

@@ -1,8 +1,8 @@
--- W8's count is told by the answer and the state after the step: as many dedicated receive buffers as were examined for such an answer.
-use Rattle.std.specs.Prelude.{◌≡◌, ℕ, ◌≤◌, Bool, true, false, ◌&&◌, ◌||◌, not, List, get_or, leb}
+-- Towards proofs/LookedLaws.antt: W8's count as an answer and the state after the step tell it, and the plans whose count is told so.
+use Rattle.std.specs.Prelude.{◌≡◌, ℕ, ◌≤◌, Bool, false, ◌&&◌, not, List, leb}
 use Rattle.std.proofs.Math.Path.{refl}
 use Rattle.std.proofs.Common.{sym, ap, ◌∙◌, arith, le_refl, ltb-false, le-leb}
-use Rattle.std.proofs.Math.Dec.{eqb, ltb}
+use Rattle.std.proofs.Math.Dec.{ltb}
 use Rattle.masks.specs.Pick.{pick}
 use Rattle.masks.specs.PickLaws.{pick-keeps}
 use Rattle.masks.specs.Bits.{highest}
@@ -11,17 +11,14 @@ use Rattle.contents.specs.Bytes.{Head}
 use Rattle.rules.specs.declared.Register.{Register}
 use Rattle.rules.specs.declared.Answer.{Answer}
 use Rattle.rules.specs.declared.Control.{Control}
-use Rattle.rules.specs.Registers.{register_at, region_of, Region, send_place, receive_place, fifo_place, control_of, elsewhere}
+use Rattle.rules.specs.Registers.{region_of, Region, send_place, receive_place, fifo_place, control_of, elsewhere}
 use Rattle.rules.specs.Kinds.{is_locked, is_receive}
 use Rattle.rules.specs.Waiting.{asleep, is_free}
-use Rattle.rules.specs.Modes.{cancel}
 use Rattle.rules.specs.Reads.{window_reply, reply_in, read_reply}
-use Rattle.rules.specs.Bus.{raise_gisr, due_sync, lookup, to_place, to_buffer, fifo_takes, to_fifo, raise_last, examined, found, judged, received, offers, send_from, slot_for, slotted}
-use Rattle.rules.specs.Refusals.{refusal}
+use Rattle.rules.specs.Bus.{due_sync, to_place, to_buffer, fifo_takes, to_fifo, raise_last, examined, offers, send_from, slot_for, slotted}
 use Rattle.rules.specs.Answers.{given_of, number_in, is_found, is_looked_up}
-use Rattle.rules.specs.Steps.{Step, reset, read, write, sync, sync_due, slot, frame, fault, timeout}
-use Rattle.rules.specs.Plan.{Reply, say, show, send, Plan, plain, with_looked}
-use Rattle.rules.specs.Rules.{on_bus, act, decide}
+use Rattle.rules.specs.Plan.{Reply, say, show, send, Plan}
+use Rattle.rules.specs.Rules.{on_bus}
 
 -- how many buffers were examined, the answer being a and c the state after it: those up to the buffer that it names, or all
 unfoldable pub looked_by : Control → Answer → ℕ
@@ -40,7 +37,7 @@ unfolding examined
 examined-le c n = count-le (λ k. is_receive c k && leb k n) 16
 
 -- with no buffer all are examined, whatever number stands for it
-examined-all : (c : Control) (n : ℕ) → ltb n 16 ≡ false → examined c n ≡ examined c 16
+pub examined-all : (c : Control) (n : ℕ) → ltb n 16 ≡ false → examined c n ≡ examined c 16
 unfolding examined
 examined-all c n e =
     count-ext (λ k. is_receive c k && leb k n) (λ k. is_receive c k && leb k 16) 16 (le_refl 16)
@@ -51,7 +48,7 @@ examined-all c n e =
 pub record Told (p : Plan) : Type 0 where
   pub told : p.looked ≡ looked_in p.control p.reply
 
-by : (p : Plan) → p.looked ≡ looked_in p.control p.reply → Told p
+pub by : (p : Plan) → p.looked ≡ looked_in p.control p.reply → Told p
 by p e = record { told = e }
 
 window-told : (c : Control) (hs : List Head) (n p : ℕ) → 0 ≡ looked_in c (window_reply hs n p)
@@ -68,66 +65,38 @@ reply-told c hs (fifo_place p) v = window-told c hs _ p
 reply-told c hs (control_of n) v = refl
 reply-told c hs elsewhere v = refl
 
-read_told : (c : Control) (hs : List Head) (r : Register) → 0 ≡ looked_in c (read_reply c hs r)
+pub read_told : (c : Control) (hs : List Head) (r : Register) → 0 ≡ looked_in c (read_reply c hs r)
 unfolding read_reply
 read_told c hs r = reply-told c hs (region_of r) _
 
 module _ (c : Control) where
-  bus-told : (x y : Plan) → Told x → Told y → Told (on_bus c x y)
+  pub bus-told : (x y : Plan) → Told x → Told y → Told (on_bus c x y)
   unfolding on_bus looked_by pick
   bus-told x y p q = pick-keeps Told c.mode.init (λ t. by _ refl) (λ t. pick-keeps Told (asleep c) (λ u. p) (λ u. q))
 
-  due-told : (hs : List Head) → Told (due_sync c hs)
+  pub due-told : (hs : List Head) → Told (due_sync c hs)
   unfolding due_sync looked_by pick
   due-told hs = pick-keeps Told c.mode.master (λ t. by _ refl) (λ t. by _ refl)
 
-  slot-told : (hs : List Head) (i : ℕ) → Told (slotted c hs i)
+  pub slot-told : (hs : List Head) (i : ℕ) → Told (slotted c hs i)
   unfolding slotted slot_for send_from looked_by pick
   slot-told hs i =
       pick-keeps Told (not c.mode.synced) (λ t. by _ refl)
       (λ t. pick-keeps Told (ltb c.mode.last i && ltb (highest (offers c hs i) 16) 16) (λ u. by _ refl) (λ u. by _ refl))
 
   -- a frame changes neither FSIZ nor the kind of a buffer
-  abbrev Counts : ℕ → Plan → Type 0
+  abbrev pub Counts : ℕ → Plan → Type 0
   Counts k p = k ≡ looked_in p.control p.reply
 
-  buffer-told : (i n : ℕ) → Counts (examined c n) (to_buffer (raise_last c i) n)
+  pub buffer-told : (i n : ℕ) → Counts (examined c n) (to_buffer (raise_last c i) n)
   unfolding to_buffer to_place raise_last looked_by examined is_receive pick
   buffer-told i n =
       pick-keeps (Counts (examined c n)) (is_locked (raise_last c i) n)
       (λ t. pick-keeps (Counts (examined c n)) (is_free c 0) (λ u. refl) (λ u. pick-keeps (Counts (examined c n)) (is_free c 1) (λ x. refl) (λ x. refl)))
       (λ t. refl)
 
-  fifo-told : (i : ℕ) → Counts (examined c 16) (to_fifo (raise_last c i) i)
+  pub fifo-told : (i : ℕ) → Counts (examined c 16) (to_fifo (raise_last c i) i)
   unfolding to_fifo raise_last looked_by examined is_receive pick
   fifo-told i =
       pick-keeps (Counts (examined c 16)) (fifo_takes (raise_last c i) i)
       (λ t. pick-keeps (Counts (examined c 16)) (leb c.config.fsiz c.fifo.count) (λ u. refl) (λ u. refl)) (λ t. refl)
-
-  found-told : (i n : ℕ) → Told (found c i n)
-  unfolding found
-  found-told i n =
-      by _ (pick-keeps (Counts (examined c n)) (ltb n 16) (λ t. buffer-told i n) (λ t. examined-all c n t ∙ fifo-told i))
-
-module _ (c : Control) where
-  frame-told : (hs : List Head) (good : Bool) (i : ℕ) → Told (received c hs good i)
-  unfolding received judged looked_by pick
-  frame-told hs good i =
-      pick-keeps Told (not c.mode.synced) (λ t. by _ refl)
-      (λ t. pick-keeps Told (not good || eqb i 0) (λ u. by _ refl) (λ u. found-told (cancel c) i (lookup c hs i)))
-
-  act-told : (hs : List Head) (e : Step) → Told (act c hs e)
-  unfolding act looked_by pick
-  act-told hs reset = by _ refl
-  act-told hs (read a) = by _ (read_told c hs (register_at a))
-  act-told hs (write a v) = by _ refl
-  act-told hs (sync k) = bus-told c _ _ (by _ refl) (by _ refl)
-  act-told hs sync_due = bus-told c _ _ (by _ refl) (due-told c hs)
-  act-told hs (slot i room) = bus-told c _ _ (by _ refl) (slot-told c hs i)
-  act-told hs (frame good f) = bus-told c _ _ (by _ refl) (frame-told hs good (get_or f 0 0))
-  act-told hs (fault k) = bus-told c _ _ (by _ refl) (by _ refl)
-  act-told hs timeout = bus-told c _ _ (by _ refl) (by _ refl)
-
-  pub decide-told : (hs : List Head) (e : Step) → Told (decide c hs e)
-  unfolding decide looked_by pick
-  decide-told hs e = pick-keeps Told (eqb (refusal c e) 0) (λ t. act-told hs e) (λ t. by _ refl)

@@ -1,12 +1,12 @@
 -- Document 01, 'Refusal numbers': each refusal as a test, and the lowest number that applies.
-use Rattle.std.specs.Prelude.{ℕ, zero, suc, ◌+◌, ◌-◌, ◌/◌, ◌%◌, Bool, true, false, ◌&&◌, ◌||◌, not, List, [], ◌∷◌, get_or, length, eqb, ltb, leb}
+use Rattle.std.specs.Prelude.{ℕ, suc, ◌+◌, ◌-◌, ◌%◌, Bool, ◌&&◌, ◌||◌, not, List, [], ◌∷◌, get_or, length, eqb, ltb, leb}
 use Rattle.std.specs.Bool.{beq}
 use Rattle.masks.specs.Pick.{pick}
 use Rattle.masks.specs.Bits.{some_of}
 use Rattle.locks.specs.Pair.{has_holder, is_full}
 use Rattle.contents.specs.Bytes.{cut}
 use Rattle.rules.specs.declared.Control.{Control}
-use Rattle.rules.specs.Registers.{has, between, INITRQ, CFG, LOCK}
+use Rattle.rules.specs.Registers.{has, between, INITRQ, LOCK}
 use Rattle.rules.specs.Kinds.{is_transmit, is_locked, is_oldest, is_lawful}
 use Rattle.rules.specs.Waiting.{asleep}
 use Rattle.rules.specs.Writes.{cfg_after}

@@ -189,7 +189,7 @@ empty_fifo = record { oldest = 0; next = 0; count = 0; locked = false }
 
 -- both waiting places free (W5)
 abbrev pub no_places : Places
-no_places = record { first = none; second = none; swapped = false; unused = 0 }
+no_places = record { first = none; second = none; swapped = false }
 
 unfoldable pub reset_control : Control
 reset_control =

@@ -1,5 +1,5 @@
 -- The rules of document 01: what each step does that is not refused, and the step.
-use Rattle.std.specs.Prelude.{ℕ, Bool, List, [], ◌∷◌, get_or, eqb}
+use Rattle.std.specs.Prelude.{List, [], ◌∷◌, get_or, eqb}
 use Rattle.masks.specs.Pick.{pick}
 use Rattle.contents.specs.Bytes.{Head}
 use Rattle.rules.specs.declared.Answer.TheVariants.{Ok, Refused, Ignored, Woke}

@@ -1,24 +1,21 @@
--- A plan that is answered "refused" or "ignored" changes nothing, from any state.
-use Rattle.std.specs.Prelude.{◌≡◌, ℕ, Bool, true, false, ◌&&◌, ◌||◌, not, List, [], get_or, leb}
+-- Towards proofs/UnchangedLaws.antt: the plans that change nothing if they are answered "refused" or "ignored", but for a frame's.
+use Rattle.std.specs.Prelude.{◌≡◌, ℕ, Bool, true, false, ◌&&◌, not, List, [], leb}
 use Rattle.std.proofs.Math.Path.{refl}
 use Rattle.std.proofs.Common.{sym, ◌∙◌}
 use Rattle.std.proofs.lemmas.Bool.{false≢true}
-use Rattle.std.proofs.Math.Dec.{eqb, ltb}
+use Rattle.std.proofs.Math.Dec.{ltb}
 use Rattle.masks.specs.PickLaws.{pick-keeps}
 use Rattle.masks.specs.Bits.{highest}
 use Rattle.contents.specs.Bytes.{Head}
 use Rattle.rules.specs.declared.Answer.{Answer}
-use Rattle.rules.specs.declared.Answer.TheVariants.{Refused, Ignored}
+use Rattle.rules.specs.declared.Answer.TheVariants.{Ignored}
 use Rattle.rules.specs.declared.Control.{Control}
 use Rattle.rules.specs.Kinds.{is_locked}
 use Rattle.rules.specs.Waiting.{asleep, is_free}
-use Rattle.rules.specs.Modes.{cancel}
-use Rattle.rules.specs.Bus.{due_sync, lookup, to_place, to_buffer, fifo_takes, to_fifo, raise_last, found, judged, received, offers, send_from, slot_for, slotted}
-use Rattle.rules.specs.Refusals.{refusal}
+use Rattle.rules.specs.Bus.{due_sync, to_place, to_buffer, fifo_takes, to_fifo, offers, send_from, slot_for, slotted}
 use Rattle.rules.specs.Answers.{changes_nothing}
-use Rattle.rules.specs.Steps.{Step, reset, read, write, sync, sync_due, slot, frame, fault, timeout}
 use Rattle.rules.specs.Plan.{Reply, say, show, send, Plan, plain, with_looked}
-use Rattle.rules.specs.Rules.{on_bus, act, decide}
+use Rattle.rules.specs.Rules.{on_bus}
 
 abbrev pub still_reply : Reply → Bool
 still_reply (say a) = changes_nothing a
@@ -34,68 +31,43 @@ impossible : {G : Type 0} → false ≡ true → G
 impossible e = absurd (false≢true e)
 
 -- an answer of another kind, and a plan that is no change
-other : {c : Control} (p : Plan) → still_reply p.reply ≡ false → Still c p
+pub other : {c : Control} (p : Plan) → still_reply p.reply ≡ false → Still c p
 other p e = record { same-control = λ t. impossible (sym e ∙ t); no-moves = λ t. impossible (sym e ∙ t) }
 
-same : (c : Control) (a : Answer) → Still c (plain c a)
+pub same : (c : Control) (a : Answer) → Still c (plain c a)
 same c a = record { same-control = λ t. refl; no-moves = λ t. refl }
 
 -- a count changes nothing
-counted-still : {c : Control} (p : Plan) (k : ℕ) → Still c p → Still c (with_looked p k)
+pub counted-still : {c : Control} (p : Plan) (k : ℕ) → Still c p → Still c (with_looked p k)
 counted-still p k s = record { same-control = s.same-control; no-moves = s.no-moves }
 
 module _ (c : Control) where
-  bus-still : (x y : Plan) → Still c x → Still c y → Still c (on_bus c x y)
+  pub bus-still : (x y : Plan) → Still c x → Still c y → Still c (on_bus c x y)
   unfolding on_bus
   bus-still x y p q = pick-keeps (Still c) c.mode.init (λ t. same c Ignored) (λ t. pick-keeps (Still c) (asleep c) (λ u. p) (λ u. q))
 
-  due-still : (hs : List Head) → Still c (due_sync c hs)
+  pub due-still : (hs : List Head) → Still c (due_sync c hs)
   unfolding due_sync
   due-still hs =
       pick-keeps (Still c) c.mode.master (λ t. other _ refl) (λ t. same c Ignored)
 
-  buffer-still : (d : Control) (n : ℕ) → Still c (to_buffer d n)
+  pub buffer-still : (d : Control) (n : ℕ) → Still c (to_buffer d n)
   unfolding to_buffer to_place
   buffer-still d n =
       pick-keeps (Still c) (is_locked d n)
       (λ t. pick-keeps (Still c) (is_free d 0) (λ u. other _ refl) (λ u. pick-keeps (Still c) (is_free d 1) (λ x. other _ refl) (λ x. other _ refl)))
       (λ t. other _ refl)
 
-  fifo-still : (d : Control) (i : ℕ) → Still c (to_fifo d i)
+  pub fifo-still : (d : Control) (i : ℕ) → Still c (to_fifo d i)
   unfolding to_fifo
   fifo-still d i =
       pick-keeps (Still c) (fifo_takes d i)
       (λ t. pick-keeps (Still c) (leb d.config.fsiz d.fifo.count) (λ u. other _ refl) (λ u. other _ refl)) (λ t. other _ refl)
 
-  frame-still : (hs : List Head) (good : Bool) (i : ℕ) → Still c (received c hs good i)
-  unfolding received judged found
-  frame-still hs good i =
-      pick-keeps (Still c) (not c.mode.synced) (λ t. same c Ignored)
-      (λ t. pick-keeps (Still c) (not good || eqb i 0) (λ u. other _ refl)
-      (λ u. counted-still _ _
-      (pick-keeps (Still c) (ltb (lookup c hs i) 16) (λ x. buffer-still (raise_last (cancel c) i) (lookup c hs i)) (λ x. fifo-still (raise_last (cancel c) i) i))))
-
-  slot-still : (hs : List Head) (i : ℕ) → Still c (slotted c hs i)
+  pub slot-still : (hs : List Head) (i : ℕ) → Still c (slotted c hs i)
   unfolding slotted slot_for send_from
   slot-still hs i =
       let n = highest (offers c hs i) 16 in
       pick-keeps (Still c) (not c.mode.synced) (λ t. same c Ignored)
       (λ t. pick-keeps (Still c) (ltb c.mode.last i && ltb n 16)
       (λ u. other _ refl) (λ u. other _ refl))
-
-  act-still : (hs : List Head) (e : Step) → Still c (act c hs e)
-  unfolding act
-  act-still hs reset = other _ refl
-  act-still hs (read a) = record { same-control = λ t. refl; no-moves = λ t. refl }
-  act-still hs (write a v) = other _ refl
-  act-still hs (sync k) = bus-still _ _ (other _ refl) (other _ refl)
-  act-still hs sync_due = bus-still _ _ (same c Ignored) (due-still hs)
-  act-still hs (slot i room) = bus-still _ _ (same c Ignored) (slot-still hs i)
-  act-still hs (frame good f) = bus-still _ _ (other _ refl) (frame-still hs good (get_or f 0 0))
-  act-still hs (fault k) = bus-still _ _ (other _ refl) (other _ refl)
-  act-still hs timeout = bus-still _ _ (same c Ignored) (other _ refl)
-
-  pub decide-still : (hs : List Head) (e : Step) → Still c (decide c hs e)
-  unfolding decide
-  decide-still hs e =
-      pick-keeps (Still c) (eqb (refusal c e) 0) (λ t. act-still hs e) (λ t. same c (Refused (refusal c e)))

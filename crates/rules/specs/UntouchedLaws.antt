@@ -1,6 +1,6 @@
--- The plan of a bus event leaves a locked buffer alone: no byte of it moves, its control register reads the same, it is armed
--- if it was, and holders and contenders stay.
-use Rattle.std.specs.Prelude.{◌≡◌, refl, ℕ, ◌<◌, Bool, true, ◌&&◌, ◌||◌, not, List, [], ◌∷◌, get_or, leb}
+-- Towards proofs/UntouchedLaws.antt: what leaves a locked buffer alone, so that no byte of it moves, its control register reads the same,
+-- it is armed if it was, and holders and contenders stay.
+use Rattle.std.specs.Prelude.{◌≡◌, refl, ℕ, ◌<◌, Bool, true, ◌&&◌, not, List, [], ◌∷◌, leb}
 use Rattle.std.proofs.Math.Path.{sym}
 use Rattle.std.proofs.Common.{ap, ◌∙◌, ne_eqb, leb-false, ltb-true}
 use Rattle.std.proofs.Math.Bool.{false, and-false, and-eq-true_iff}
@@ -11,23 +11,20 @@ use Rattle.masks.specs.Bits.{bit_of, mask_of, put_bit, highest}
 use Rattle.masks.specs.Laws.{bit-none, bit_mask, put_other}
 use Rattle.masks.specs.SearchLaws.{never_both, highest-holds}
 use Rattle.contents.specs.Bytes.{Head}
-use Rattle.rules.specs.declared.SyncKind.{SyncKind}
 use Rattle.rules.specs.declared.Fault.{Fault}
 use Rattle.rules.specs.declared.Fault.TheVariants.{Early, Lost, Illegal, Mismatch}
 use Rattle.rules.specs.declared.Answer.{Answer}
-use Rattle.rules.specs.declared.Answer.TheVariants.{Ok, Pulse, Refused, BadFrame, Ignored, Woke}
+use Rattle.rules.specs.declared.Answer.TheVariants.{Ok, BadFrame, Ignored, Woke}
 use Rattle.rules.specs.declared.Control.{Control}
 use Rattle.rules.specs.Registers.{with_flag, LOCK, IFLG, ABTAK, IENA, CFG, ERRIF}
 use Rattle.rules.specs.Kinds.{is_armed, is_full_transmit, is_locked, fifo_holder}
 use Rattle.rules.specs.Reads.{bufctl}
 use Rattle.rules.specs.Waiting.{asleep, is_free}
 use Rattle.rules.specs.Modes.{wake, cancel}
-use Rattle.rules.specs.Bus.{raise_gisr, woken, arms, synced, due_kind, due_sync, timed_out, faulted, lookup, to_place, to_buffer, fifo_takes, to_fifo, raise_last, found, judged, received, offers, send_from, slot_for, slotted}
-use Rattle.rules.specs.Refusals.{refusal}
-use Rattle.rules.specs.Steps.{Step, reset, read, write, sync, sync_due, slot, frame, fault, timeout}
+use Rattle.rules.specs.Bus.{raise_gisr, woken, arms, timed_out, faulted, to_place, to_buffer, fifo_takes, to_fifo, raise_last, offers, send_from, slot_for, slotted}
 use Rattle.rules.specs.Plan.{Move, store, hold, head_at, Plan, plain, with_looked}
-use Rattle.rules.specs.Rules.{on_bus, act, decide}
-use Rattle.rules.specs.Untouched.{is_bus_event, TargetsFree, roles_of}
+use Rattle.rules.specs.Rules.{on_bus}
+use Rattle.rules.specs.Untouched.{TargetsFree, roles_of}
 
 -- moves that leave buffer n alone
 pub data Avoids (n : ℕ) : List Move → Type 0 where
@@ -41,7 +38,7 @@ pub record Spares (c : Control) (n : ℕ) (p : Plan) : Type 0 where
   pub same_roles : roles_of p.control ≡ roles_of c
   pub avoided : Avoids n p.moves
 
-counted-spares : {c : Control} {n : ℕ} (p : Plan) (k : ℕ) → Spares c n p → Spares c n (with_looked p k)
+pub counted-spares : {c : Control} {n : ℕ} (p : Plan) (k : ℕ) → Spares c n p → Spares c n (with_looked p k)
 counted-spares p k s = record { same-bufctl = s.same-bufctl; same-arming = s.same-arming; same_roles = s.same_roles; avoided = s.avoided }
 
 -- IFLG of another buffer
@@ -71,47 +68,37 @@ module _ (c : Control) (n : ℕ) (small : n < 16) (locked : is_locked c n ≡ tr
   disarmed = bit-none n ∙ sym unarmed
 
   -- a locked buffer isn't armed by a sync
-  unarmed-on : (hs : List Head) → bit_of (mask_of (arms c hs)) n ≡ is_armed c n
+  pub unarmed-on : (hs : List Head) → bit_of (mask_of (arms c hs)) n ≡ is_armed c n
   unfolding arms
   unarmed-on hs =
       let off : arms c hs n ≡ false = simp (locked, and-false (is_full_transmit c n)) in
       bit_mask (arms c hs) n small ∙ off ∙ sym unarmed
 
-  same : (a : Answer) → Spares c n (plain c a)
+  pub same : (a : Answer) → Spares c n (plain c a)
   same a = record { same-bufctl = refl; same-arming = refl; same_roles = refl; avoided = none }
 
-  woken-spares : Spares c n (plain (woken c) Woke)
+  pub woken-spares : Spares c n (plain (woken c) Woke)
   unfolding woken wake bufctl is_locked fifo_holder
   woken-spares = record { same-bufctl = refl; same-arming = disarmed; same_roles = refl; avoided = none }
 
-  synced-spares : (k : SyncKind) (hs : List Head) (a : Answer) → Spares c n (plain (synced k (cancel c) hs) a)
-  unfolding cancel synced arms bufctl is_locked fifo_holder
-  synced-spares k hs a = record { same-bufctl = refl; same-arming = unarmed-on hs; same_roles = refl; avoided = none }
-
-  faulted-spares : (k : Fault) → Spares c n (plain (faulted k (cancel c)) Ok)
+  pub faulted-spares : (k : Fault) → Spares c n (plain (faulted k (cancel c)) Ok)
   unfolding cancel faulted bufctl is_locked fifo_holder
   faulted-spares Early = record { same-bufctl = refl; same-arming = refl; same_roles = refl; avoided = none }
   faulted-spares Lost = record { same-bufctl = refl; same-arming = disarmed; same_roles = refl; avoided = none }
   faulted-spares Illegal = record { same-bufctl = refl; same-arming = refl; same_roles = refl; avoided = none }
   faulted-spares Mismatch = record { same-bufctl = refl; same-arming = refl; same_roles = refl; avoided = none }
 
-  timed-out-spares : Spares c n (plain (timed_out c) Ok)
+  pub timed-out-spares : Spares c n (plain (timed_out c) Ok)
   unfolding timed_out bufctl is_locked fifo_holder
   timed-out-spares = record { same-bufctl = refl; same-arming = refl; same_roles = refl; avoided = none }
 
-  bus-spares : (x y : Plan) → Spares c n x → (c.mode.init ≡ false → Spares c n y) → Spares c n (on_bus c x y)
+  pub bus-spares : (x y : Plan) → Spares c n x → (c.mode.init ≡ false → Spares c n y) → Spares c n (on_bus c x y)
   unfolding on_bus
   bus-spares x y p q =
       pick-keeps (Spares c n) c.mode.init (λ t. same Ignored) (λ t. pick-keeps (Spares c n) (asleep c) (λ u. p) (λ u. q t))
 
-  due-spares : (hs : List Head) → Spares c n (due_sync c hs)
-  unfolding due_sync
-  due-spares hs =
-      pick-keeps (Spares c n) c.mode.master
-      (λ t. synced-spares (due_kind c) hs (Pulse (due_kind c))) (λ t. same Ignored)
-
   -- locked, it waits or is dropped
-  buffer-spares : (i m : ℕ) → Spares c n (to_buffer (raise_last (cancel c) i) m)
+  pub buffer-spares : (i m : ℕ) → Spares c n (to_buffer (raise_last (cancel c) i) m)
   unfolding cancel to_buffer to_place raise_last bufctl is_locked fifo_holder
   buffer-spares i m =
       pick-keeps (Spares c n) (is_locked c m)
@@ -120,7 +107,7 @@ module _ (c : Control) (n : ℕ) (small : n < 16) (locked : is_locked c n ≡ tr
       (λ x. record { same-bufctl = refl; same-arming = refl; same_roles = refl; avoided = none })))
       (λ t. record { same-bufctl = flag-other _ _ _ _ c.buffers.iflg n m small (another m t); same-arming = refl; same_roles = refl; avoided = stores (another m t) })
 
-  fifo-spares : (i : ℕ) → c.mode.init ≡ false → Spares c n (to_fifo (raise_last (cancel c) i) i)
+  pub fifo-spares : (i : ℕ) → c.mode.init ≡ false → Spares c n (to_fifo (raise_last (cancel c) i) i)
   unfolding cancel to_fifo raise_last bufctl is_locked fifo_holder
   fifo-spares i o =
       pick-keeps (Spares c n) (fifo_takes (raise_last (cancel c) i) i)
@@ -128,16 +115,9 @@ module _ (c : Control) (n : ℕ) (small : n < 16) (locked : is_locked c n ≡ tr
       (λ u. record { same-bufctl = refl; same-arming = refl; same_roles = refl; avoided = stores (another c.fifo.next (free.next-free o (leb-false c.config.fsiz c.fifo.count u))) }))
       (λ t. record { same-bufctl = refl; same-arming = refl; same_roles = refl; avoided = none })
 
-  bad-spares : Spares c n (plain (raise_gisr (cancel c) ERRIF) BadFrame)
+  pub bad-spares : Spares c n (plain (raise_gisr (cancel c) ERRIF) BadFrame)
   unfolding cancel bufctl is_locked fifo_holder
   bad-spares = record { same-bufctl = refl; same-arming = refl; same_roles = refl; avoided = none }
-
-  frame-spares : (hs : List Head) (good : Bool) (i : ℕ) → c.mode.init ≡ false → Spares c n (received c hs good i)
-  unfolding received judged found
-  frame-spares hs good i o =
-      pick-keeps (Spares c n) (not c.mode.synced) (λ t. same Ignored)
-      (λ t. pick-keeps (Spares c n) (not good || eqb i 0) (λ u. bad-spares)
-      (λ u. counted-spares _ _ (pick-keeps (Spares c n) (ltb (lookup c hs i) 16) (λ x. buffer-spares i (lookup c hs i)) (λ x. fifo-spares i o))))
 
   -- what is sent is armed, so not locked, and another buffer
   sent-other : (hs : List Head) (i : ℕ) → highest (offers c hs i) 16 < 16 → eqb n (highest (offers c hs i) 16) ≡ false
@@ -145,7 +125,7 @@ module _ (c : Control) (n : ℕ) (small : n < 16) (locked : is_locked c n ≡ tr
       let m = highest (offers c hs i) 16 in
       another m (free.armed-free m b (offered-armed c hs i b))
 
-  slot-spares : (hs : List Head) (i : ℕ) → Spares c n (slotted c hs i)
+  pub slot-spares : (hs : List Head) (i : ℕ) → Spares c n (slotted c hs i)
   unfolding slotted slot_for send_from bufctl is_locked fifo_holder
   slot-spares hs i =
       let m = highest (offers c hs i) 16 in
@@ -154,20 +134,3 @@ module _ (c : Control) (n : ℕ) (small : n < 16) (locked : is_locked c n ≡ tr
       (λ u. let other = sent-other hs i (ltb-true m 16 ((and-eq-true_iff (ltb c.mode.last i) (ltb m 16)).0 u).1) in
       record { same-bufctl = flag-other _ _ _ _ c.buffers.iflg n m small other; same-arming = put_other c.buffers.armed m false n other small; same_roles = refl; avoided = none })
       (λ u. record { same-bufctl = refl; same-arming = refl; same_roles = refl; avoided = none }))
-
-  act-spares : (hs : List Head) (e : Step) → is_bus_event e ≡ true → Spares c n (act c hs e)
-  unfolding act
-  act-spares hs reset b = absurd (false≢true b)
-  act-spares hs (read a) b = absurd (false≢true b)
-  act-spares hs (write a v) b = absurd (false≢true b)
-  act-spares hs (sync k) b = bus-spares _ _ woken-spares (λ o. synced-spares k hs Ok)
-  act-spares hs sync_due b = bus-spares _ _ (same Ignored) (λ o. due-spares hs)
-  act-spares hs (slot i room) b = bus-spares _ _ (same Ignored) (λ o. slot-spares hs i)
-  act-spares hs (frame good f) b = bus-spares _ _ woken-spares (λ o. frame-spares hs good (get_or f 0 0) o)
-  act-spares hs (fault k) b = bus-spares _ _ woken-spares (λ o. faulted-spares k)
-  act-spares hs timeout b = bus-spares _ _ (same Ignored) (λ o. timed-out-spares)
-
-  pub decide-spares : (hs : List Head) (e : Step) → is_bus_event e ≡ true → Spares c n (decide c hs e)
-  unfolding decide
-  decide-spares hs e b =
-      pick-keeps (Spares c n) (eqb (refusal c e) 0) (λ t. act-spares hs e b) (λ t. same (Refused (refusal c e)))

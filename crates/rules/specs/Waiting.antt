@@ -25,16 +25,16 @@ asleep c = c.mode.slprq && (is_free c 0 && is_free c 1)
 
 -- place k with a frame for buffer n, which is then the newest
 abbrev pub occupied : Places → ℕ → ℕ → Places
-occupied p zero n = record { first = n; second = p.second; swapped = true; unused = p.unused }
-occupied p (suc k) n = record { first = p.first; second = n; swapped = false; unused = p.unused }
+occupied p zero n = record { first = n; second = p.second; swapped = true }
+occupied p (suc k) n = record { first = p.first; second = n; swapped = false }
 
 -- ---- "When a buffer stops being locked, frames waiting for it are stored in order of arrival within that same call, IFLG set, and
 -- their places are free again."
 
 -- place k free again
 abbrev pub freed : Places → ℕ → Places
-freed p zero = record { first = none; second = p.second; swapped = p.swapped; unused = p.unused }
-freed p (suc k) = record { first = p.first; second = none; swapped = p.swapped; unused = p.unused }
+freed p zero = record { first = none; second = p.second; swapped = p.swapped }
+freed p (suc k) = record { first = p.first; second = none; swapped = p.swapped }
 
 -- the frame in place k stored in buffer n
 abbrev pub stored_from : Control → ℕ → ℕ → Control

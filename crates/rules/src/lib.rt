@@ -1,18 +1,20 @@
 // The controller's control state, by concern: everything but the buffers' bytes.
+#![tactic(auto)]
+
 pub mod bits;
 
 use filter::Filter;
 use locks::Locks;
 
 // The two kinds of sync pulse.
-#[derive(Drop)]
+#[derive(Clone, Copy)]
 pub enum SyncKind {
     Normal,
     Alarm,
 }
 
 // The faults that the bus can show.
-#[derive(Drop)]
+#[derive(Clone, Copy)]
 pub enum Fault {
     Early,
     Lost,
@@ -22,7 +24,7 @@ pub enum Fault {
 
 // The registers behind the addresses $00 to $5F, by the manual's names without their BF.
 // A window's place is 0 for the identifier, 1 for the length, 2 to 13 for data 0 to 11.
-#[derive(Drop)]
+#[derive(Clone, Copy)]
 pub enum Register {
     Mcr,
     Fsizr,
@@ -50,7 +52,7 @@ pub enum Register {
 }
 
 // What a call or an event is answered.
-#[derive(Drop)]
+#[derive(Clone, Copy)]
 pub enum Answer {
     Ok,
     Value(u8),
@@ -73,7 +75,7 @@ pub enum Answer {
 
 // $00, synchronization, and the largest identifier on the bus since the last sync.
 #[repr(C)]
-#[derive(Drop)]
+#[derive(Clone, Copy)]
 pub struct Mode {
     // INITRQ and INITAK, which are never apart
     pub init: bool,
@@ -89,7 +91,7 @@ pub struct Mode {
 
 // What the application sets up: FSIZ, the three timing registers, the interrupt enables, the FIFO's filters, BFEN.
 #[repr(C)]
-#[derive(Drop)]
+#[derive(Clone, Copy)]
 pub struct Config {
     pub fsiz: u8,
     pub tcr1: u8,
@@ -104,7 +106,7 @@ pub struct Config {
 
 // The event flags of $06 and $07, at their bits, and a SYNLIF clear that waits for the next sync.
 #[repr(C)]
-#[derive(Drop)]
+#[derive(Clone, Copy)]
 pub struct Events {
     pub risr: u8,
     pub gisr: u8,
@@ -113,7 +115,7 @@ pub struct Events {
 
 // The FIFO: its oldest entry's place, the place for the next frame, the number of entries, and its lock.
 #[repr(C)]
-#[derive(Drop)]
+#[derive(Clone, Copy)]
 pub struct Fifo {
     pub oldest: u8,
     pub next: u8,
@@ -123,7 +125,7 @@ pub struct Fifo {
 
 // The buffers' control bits, one mask a bit: bit n stands for buffer n. Armed: sent at its slot in this cycle.
 #[repr(C)]
-#[derive(Drop)]
+#[derive(Clone, Copy)]
 pub struct Buffers {
     pub cfg: u16,
     pub iena: u16,
@@ -133,20 +135,18 @@ pub struct Buffers {
 }
 
 // The two waiting places: for which buffer the frame in each waits, 16 in a free one. Swapped: the frame in the second place came
-// before the one in the first. Unused is always 0: without it a byte that nothing writes would stand before the buffers' masks, which
-// are aligned to two, and a copy of the record would carry what lay there.
+// before the one in the first.
 #[repr(C)]
-#[derive(Drop)]
+#[derive(Clone, Copy)]
 pub struct Places {
     pub first: u8,
     pub second: u8,
     pub swapped: bool,
-    pub unused: u8,
 }
 
 // The control state.
 #[repr(C)]
-#[derive(Drop)]
+#[derive(Clone, Copy)]
 pub struct Control {
     pub mode: Mode,
     pub config: Config,
@@ -161,7 +161,7 @@ pub struct Control {
 // What the rules make of a bus step: an answer alone, a frame to store with its answer, or a buffer's frame to send. A frame is stored
 // in a buffer, or, where that number is 16, in a waiting place, which else is 2: one case for both, so that the code that stores a frame
 // stands once.
-#[derive(Drop)]
+#[derive(Clone, Copy)]
 pub enum Verdict {
     Say(Answer),
     Store(u8, u8, Answer),
@@ -169,7 +169,7 @@ pub enum Verdict {
 }
 
 // The next control state, and the verdict.
-#[derive(Drop)]
+#[derive(Clone, Copy)]
 pub struct Ruling {
     pub next: Control,
     pub verdict: Verdict,

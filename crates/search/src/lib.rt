@@ -2,6 +2,8 @@
 // Every function answers for every mask and every identifier.
 // The sixteen identifiers are taken out first, at places that the compiler knows: it then reads these sixteen bytes alone, where
 // an index that it doesn't know would have it copy all contents. A search for one buffer leaves at the first hit.
+#![tactic(auto)]
+
 ghost use Rattle.std.specs.Prelude.{◌≡◌, get_or};
 ghost use Rattle.search.specs.CodeSearch.{lowest_with, highest_with, named_of};
 ghost use Rattle.search.specs.IdentLaws.{idents_of, named_within};

@@ -1,5 +1,7 @@
 // The frame that goes out of a buffer.
 // The functions take the fourteen bytes of its contents by value; each answers for every argument.
+#![tactic(auto)]
+
 ghost use Rattle.std.specs.Prelude.{◌≡◌, ◌+◌, min, length};
 ghost use Rattle.contents.specs.Bytes.{frame_of};
 ghost use Rattle.sending.specs.CodeRoom.{room_after};

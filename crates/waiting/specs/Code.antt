@@ -23,7 +23,6 @@ freed_for p n =
       first = pick (eqb p.first n) none p.first;
       second = pick (eqb p.second n) none p.second;
       swapped = p.swapped;
-      unused = p.unused;
     }
 
 -- the control state after them, where there is one: IFLG set, their places free

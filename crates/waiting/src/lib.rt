@@ -1,4 +1,6 @@
 // The two places in which frames wait for a locked buffer, and the sleep that waits for them.
+#![tactic(auto)]
+
 ghost use Rattle.std.specs.Prelude.{◌≡◌, eqb};
 ghost use Rattle.masks.specs.Pick.{pick};
 ghost use Rattle.locks.specs.Pair.{none};

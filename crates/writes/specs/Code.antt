@@ -1,7 +1,6 @@
 -- The writes of the registers below $50, apart from those of the control registers.
-use Rattle.std.specs.Prelude.{ℕ, zero, suc, ◌-◌, ◌<◌, ◌≤◌, false, List, [], ◌∷◌, ◌≡◌, refl, get_or, ltb}
+use Rattle.std.specs.Prelude.{ℕ, zero, suc, ◌-◌, ◌<◌, ◌≤◌, List, [], ◌∷◌, ◌≡◌, refl, get_or, ltb}
 use Rattle.std.proofs.Common.{arith, lt-ltb, le-ltb, ltb-false}
-use Rattle.masks.specs.Pick.{pick}
 use Rattle.masks.specs.PickLaws.{pick_true, pick-false, pick-keeps}
 use Rattle.rules.specs.declared.Register.{Register}
 use Rattle.rules.specs.declared.Register.TheVariants.{Mcr, Fsizr, Tcr1, Tcr2, Tcr3, Risr, Gisr, Rier, Gier, Rivec, Tivec, Fidac, Fidmr, Mvr, Pctlbf, Buflock, Fidrj, Fidrmr, TransmitWindow, ReceiveWindow, FifoWindow, Bufctl, Reserved}

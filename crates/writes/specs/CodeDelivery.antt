@@ -1,5 +1,5 @@
 -- The write of a control register in two parts: all but the delivery of frames that wait, and that.
-use Rattle.std.specs.Prelude.{ℕ, Bool, true, false, ◌&&◌, not, ◌≡◌, refl}
+use Rattle.std.specs.Prelude.{ℕ, Bool, ◌&&◌, not, ◌≡◌, refl}
 use Rattle.std.proofs.Common.{sym, ap, ◌∙◌}
 use Rattle.masks.specs.Pick.{pick}
 use Rattle.masks.specs.PickLaws.{pick_true, pick-false, pick-keeps, by-test}

@@ -15,6 +15,7 @@ pub(crate) fn write_risr(f: Events, v: u8) -> Events
 }
 
 // A SYNLIF clear that waits for the next sync: the flag stands, and the module is unsynchronized.
+#[tactic(auto, unfolding(rules::specs::Flags::defers_clear))]
 fn defers_clear(f: Events, synced: bool, v: u8) -> bool
     ensures { result ≡ defers_clear synced f v }
 {

@@ -1,4 +1,6 @@
 // Register writes that are not refused.
+#![tactic(auto)]
+
 mod bufctl;
 mod events;
 mod locking;
@@ -36,6 +38,7 @@ pub fn written_control(c: Control, n: u8, v: u8) -> Control
 
 // A write of a register below $50; a window's bytes are none of the control state. The control registers, which test code writes
 // most, have a path of their own.
+#[tactic(auto, unfolding(crate::specs::Code::written_low, rules::specs::Writes::written))]
 pub fn written_low(c: Control, register: Register, v: u8) -> Control
     ensures { result ≡ written_low c register v }
 {

@@ -11,6 +11,7 @@ use rules::bits::{LOCKIE, has};
 use rules::{Control, Fifo};
 
 // Whether a new lock enters initialization: it is a contender, l having been its kind's locks, and LOCKIE is set.
+#[tactic(auto, unfolding(rules::specs::Writes::enters_by_lock))]
 fn enters_by_lock(c: Control, l: Locks) -> bool
     ensures { result ≡ enters_by_lock l c }
 {

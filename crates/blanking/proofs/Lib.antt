@@ -1,0 +1,4 @@
+-- final statements
+pub mod Runs
+-- nothing to believe: laws
+pub mod RunLaws

@@ -1,0 +1,8 @@
+use Rattle.report.proofs.Room.{whole, nothing}
+use Rattle.report.proofs.unread_row.Goals as goal
+
+pub returns-then-not-fits : goal.returns-then-not-fits
+returns-then-not-fits c = nothing _ c.fits.ensures c.if-not-fits.true
+
+pub returns : goal.returns
+returns c = whole c.fits.ensures c.if-not-fits.false c.unread.ensures
