@@ -37,11 +37,11 @@ extern "C" {
 #define HEVRUKAN_VERSION 600
 #define HEVRUKAN_VERSION_TEXT "0.6.0"
 
-// The bytes of a record. Its content is the library's business: read it through the registers. hevrukan_reset writes all of it, and
-// the same calls from reset give the same bytes: no byte of a record that is saved or copied is unset. Records of the same bytes are
-// controllers in the same state. Compare by the registers where the calls differed, since a waiting place that is free again keeps
-// bytes that nothing shows. The headers before this one had records of 266 and of 268 bytes, and no word for a frame that waits: a program
-// built with one of them is answered wrong size.
+// The bytes of a record. Its content is the library's business: read it through the registers. The same calls from reset give the same
+// bytes but for one, at offset 33: it is unused, and may be anything. Records that differ in no other byte are controllers in the same
+// state. Compare by the registers where the calls differed, since a waiting place that is free again keeps bytes that nothing shows. The
+// headers before this one had records of 266 and of 268 bytes, and no word for a frame that waits: a program built with one of them is
+// answered wrong size.
 #define HEVRUKAN_SIZE 296
 
 struct hevrukan {
@@ -176,22 +176,27 @@ enum hevrukan_register {
     BFBUFCTL0 = 0x50  // message buffer control
 };
 
-// Data register n of a window, 0 to 11, and the control register of buffer n, 0 to 15. GCC and Clang refuse a constant out of range
-// ("size of array is negative"). A variable is not looked at: BFTDATA(n) with n 14 is 0x30, a receive register, and BFBUFCTL(n) with
-// n -1 is 0x4F, a FIFO one. All are constant expressions for a constant n, but not for #if.
+// Data register n of a window, 0 to 11, and the control register of buffer n, 0 to 15. n is not looked at: BFTDATA(14) is 0x30, a receive
+// register, and BFBUFCTL(-1) is 0x4F, a FIFO one. Where HEVRUKAN_CHECKED is defined before the include, GCC and Clang refuse a constant
+// out of range ("size of array is negative"); a variable is not looked at there either, and #if takes the macros no more.
+#if !defined(HEVRUKAN_CHECKED) || !defined(__GNUC__)
+#define BFTDATA(n) (0x22 + (n))
+#define BFRDATA(n) (0x32 + (n))
+#define BFFDATA(n) (0x42 + (n))
+#define BFBUFCTL(n) (0x50 + (n))
+#else
 #define BFTDATA(n) (0x22 + (n) + HEVRUKAN_IN_RANGE(n, 11))
 #define BFRDATA(n) (0x32 + (n) + HEVRUKAN_IN_RANGE(n, 11))
 #define BFFDATA(n) (0x42 + (n) + HEVRUKAN_IN_RANGE(n, 11))
 #define BFBUFCTL(n) (0x50 + (n) + HEVRUKAN_IN_RANGE(n, 15))
 
 // 0, or an error of the compiler if n is a constant and not 0 to last. n itself is evaluated by the sum alone.
-#if !defined(__GNUC__)
-#define HEVRUKAN_IN_RANGE(n, last) 0
-#elif defined(__cplusplus)
+#if defined(__cplusplus)
 #define HEVRUKAN_IN_RANGE(n, last) (0 * (int)sizeof(char[__builtin_constant_p(n) && (unsigned long)(n) > (last) ? -1 : 1]))
 #else
 #define HEVRUKAN_IN_RANGE(n, last) \
     (0 * (int)sizeof(char[(unsigned long)__builtin_choose_expr(__builtin_constant_p(n), (n), 0) > (last) ? -1 : 1]))
+#endif
 #endif
 
 enum hevrukan_bits {
@@ -340,7 +345,7 @@ static inline int hevrukan_is_refused(uint32_t answer) {
     return hevrukan_word(answer) == HEVRUKAN_REFUSED;
 }
 
-// A word as the report of a replay writes it. Never null.
+// The word of a step's answer, as the report of a replay writes it. Never null; "no such word" for any other, HEVRUKAN_NO_FRAME too.
 static inline const char *hevrukan_word_text(uint32_t word) {
     switch (word) {
     case HEVRUKAN_OK: return "ok";
@@ -360,7 +365,6 @@ static inline const char *hevrukan_word_text(uint32_t word) {
     case HEVRUKAN_WAITING: return "waiting";
     case HEVRUKAN_UNKNOWN: return "unknown";
     case HEVRUKAN_WRONG_SIZE: return "wrong size";
-    case HEVRUKAN_NO_FRAME: return "no frame";
     default: return "no such word";
     }
 }

@@ -158,7 +158,8 @@ static void test_no_register_call(void) {
     CHECK(hevrukan_word(hevrukan_read(&c, BFBUFCTL(0))) == HEVRUKAN_REFUSED);
     CHECK(shown(hevrukan_buffer, &c, sizeof c, 0, BYTES, entry) == HEVRUKAN_OK);
     CHECK(hevrukan_word(hevrukan_read(&c, BFBUFCTL(0))) == HEVRUKAN_REFUSED); // still asleep
-    CHECK(strcmp(hevrukan_word_text(HEVRUKAN_NO_FRAME), "no frame") == 0);
+    CHECK(strcmp(hevrukan_word_text(HEVRUKAN_NO_FRAME), "no such word") == 0); // no step is answered so
+    CHECK(strcmp(hevrukan_word_text(HEVRUKAN_NO_FRAME + 1), "no such word") == 0);
 }
 
 static void test_version(const char *file) {

@@ -1,4 +1,4 @@
-"""The edges of the Python package, and that its names are those of the C header. tests/interface runs it."""
+"""The edges of the package python/hevrukan, and that its names are those of the C header. tests/interface runs it."""
 
 import ctypes
 import glob
@@ -12,7 +12,6 @@ TOP = os.path.dirname(os.path.dirname(os.path.realpath(__file__)))
 sys.path.insert(0, os.path.join(TOP, "python"))
 import hevrukan
 from hevrukan import *
-from hevrukan.answers import UNKNOWN, WORDS, WRONG_SIZE
 
 LARGE = [256, 256 + 0x41, 2**32, 2**32 + 1, 2**70]
 
@@ -72,7 +71,7 @@ class Edges(unittest.TestCase):
             getattr(c, step)(*arguments, **named)
         self.assertEqual(caught.exception.number, number)
         self.assertEqual(caught.exception.text, REFUSALS[number])
-        self.assertIn(f"refused {number}: {REFUSALS[number]} ({step} ", str(caught.exception))
+        self.assertEqual(str(caught.exception), f"refused {number}: {REFUSALS[number]}")
         self.assertEqual(bytes_of(c), before)
 
     def unknown(self, step, *arguments, **named):
@@ -158,7 +157,7 @@ class Edges(unittest.TestCase):
         self.assertEqual(Answer("ok"), ("ok", None, 0))
         # each part of an answer, whatever the others are
         for looked in range(17):
-            self.assertEqual(Controller._answer(65536 * looked + 256 * 15 + 14, None, 6), ("waiting", 14, looked))
+            self.assertEqual(Controller._answer(65536 * looked + 256 * 15 + 14, None, ""), ("waiting", 14, looked))
 
     def test_waiting(self):
         c = running()
@@ -267,13 +266,9 @@ class Names(unittest.TestCase):
         self.assertEqual((len(registers), len(bits), len(enables)), (28, 31, 14))
         for name, value in registers + bits:
             self.assertEqual(getattr(hevrukan, name), int(value, 16), name)
-        for name, value in registers:
-            self.assertIs(getattr(hevrukan, name), Register[name])
         for name, flag in enables:
             self.assertEqual(getattr(hevrukan, name), getattr(hevrukan, flag), name)
-        numbered = re.findall(r"^#define (BF\w+)\(n\) \((0x\w\w) \+ \(n\) \+", self.header, re.M)
-        self.assertEqual(len(numbered), 4)
-        for name, value in numbered:
+        for name, value in re.findall(r"^#define (BF\w+)\(n\) \((0x\w\w) \+ \(n\)\)", self.header, re.M):
             self.assertEqual(getattr(hevrukan, name)(3), int(value, 16) + 3, name)
 
     def test_proved_bits(self):
@@ -286,19 +281,15 @@ class Names(unittest.TestCase):
 
     def test_numbers(self):
         constants = dict(re.findall(r"\bHEVRUKAN_(\w+) = (\w+)", self.header))
-        for number, word in enumerate(WORDS):
-            self.assertEqual(constants[word.upper()] if word else "5", str(number))
-        self.assertEqual(set(WORDS) | {Word.UNREAD}, {*Word, None})
-        self.assertEqual((constants["UNKNOWN"], constants["WRONG_SIZE"]), (str(UNKNOWN), str(WRONG_SIZE)))
-        for name in ("RESET", "READ", "WRITE", "SYNC", "SYNC_DUE", "SLOT", "FRAME", "FAULT", "TIMEOUT"):
-            self.assertEqual(constants["KIND_" + name], str(getattr(hevrukan.controller, name)))
+        for number, word in hevrukan._WORDS.items():
+            self.assertEqual(constants[word.upper()], str(number))
+        for name in ("READ", "WRITE", "SYNC", "SYNC_DUE", "SLOT", "FRAME", "FAULT", "TIMEOUT"):
+            self.assertEqual(constants["KIND_" + name], str(getattr(hevrukan, "_" + name)))
         for name in ("EARLY", "LOST", "ILLEGAL", "MISMATCH"):
-            self.assertEqual(int(constants[name]), getattr(hevrukan, name))
-            self.assertEqual(int(constants[name]), Fault[name])
+            self.assertEqual(constants[name], str(getattr(hevrukan, name)))
         for name in ("LINE_FIFO", "LINE_RECEIVE", "LINE_SYNC", "LINE_XSYNC", "LINE_GENERAL"):
             self.assertEqual(int(constants[name], 16), getattr(hevrukan, name))
-        self.assertEqual((int(constants["NORMAL"]), int(constants["ALARM"])), (NORMAL_PULSE, ALARM_PULSE))
-        self.assertEqual((Sync.NORMAL, Sync.ALARM), (NORMAL_PULSE, ALARM_PULSE))
+        self.assertEqual((constants["NORMAL"], constants["ALARM"]), (str(NORMAL_PULSE), str(ALARM_PULSE)))
 
     def test_refusal_texts(self):
         texts = re.findall(r'case (\d+): return "(.*)";', self.header)

@@ -100,7 +100,7 @@ class Copies(unittest.TestCase):
         with self.assertRaises(Refused) as caught:
             Controller().write(BFFSIZR, 0x1F)
         again = pickle.loads(pickle.dumps(caught.exception))
-        self.assertEqual(str(again), str(caught.exception))
+        self.assertEqual((str(again), repr(again)), (str(caught.exception), repr(caught.exception)))
         self.assertEqual((again.number, again.address, again.value), (6, BFFSIZR, 0x1F))
 
 
@@ -162,11 +162,15 @@ class Objects(unittest.TestCase):
         for call, text in (
             (lambda: c.write(BFRIDENT, 0x22), r"write of \$22 to BFRIDENT \$30"),
             (lambda: c.read(0x60), r"read of \$60"),
-            (lambda: c.frame(b"\x21\x02\x55"), r"frame 210255"),
+            (lambda: c.frame(b"\x21\x02\x55"), r"frame 210255, verdict 1"),
             (lambda: c.slot(0x41, room=3), r"slot \$41 with a room of 3 bytes"),
         ):
-            with self.assertRaisesRegex(Refused, text):
+            with self.assertRaises(Refused) as caught:
                 call()
+            refused = caught.exception
+            self.assertRegex(refused.call, f"^{text}$")
+            self.assertRegex(repr(refused), text)
+            self.assertEqual(str(refused), f"refused {refused.number}: {REFUSALS[refused.number]}")
 
     def test_large_room(self):
         self.assertEqual(synchronized().slot(0x41, room=2**40).word, "notsent")

@@ -29,22 +29,23 @@ Answer(word='waiting', detail=0, looked=1)
 (True, 'ok')
 >>> c.write(BFBUFCTL(0), IENA | LOCK).word, c.read(BFRDATA(0)) == 0xCC    # stored by the release
 ('ok', True)
->>> c.write(BFRIDENT, 0x22)                     # doctest: +ELLIPSIS
+>>> c.write(BFRIDENT, 0x22)
 Traceback (most recent call last):
     ...
-hevrukan.Refused: refused 4: write to $01-$04, ... outside initialization (write of $22 to BFRIDENT $30)
+hevrukan.Refused: refused 4: write to $01-$04, $0C, $0D, $14, $15, $30-$3D outside initialization
 >>> c.write(BFMCR, 256)
 Traceback (most recent call last):
     ...
-hevrukan.Unknown: write of $100 to BFMCR $00: a number is out of range
+hevrukan.Unknown: write(0, 256): a number is out of range
 
 The library is the installed package's own; without installation target/lib/libhevrukan.so of the repository, which
 ./hevrukan library builds; or the file that the environment variable HEVRUKAN_LIBRARY names.
 """
 
 from . import names
-from .answers import Answer, Refused, Unknown, WrongSize
-from .controller import Controller
+from .answers import WORDS, Answer, Refused, Unknown, WrongSize
+from .controller import FAULT as _FAULT, FRAME as _FRAME, READ as _READ, SLOT as _SLOT, SYNC as _SYNC
+from .controller import SYNC_DUE as _SYNC_DUE, TIMEOUT as _TIMEOUT, WRITE as _WRITE, Controller
 from .names import *
 from .recording import Row, Step
 from .shared import library, library_path, version
@@ -56,6 +57,9 @@ __all__ = [
     "Answer", "Controller", "Refused", "Row", "State", "Step", "Unknown", "Waiting", "WrongSize", "library", "library_path",
 ]
 __all__ += names.__all__
+
+# the words by the library's numbers, as _READ and so on are its kinds of step
+_WORDS = {number: word for number, word in enumerate(WORDS) if word}
 
 # by the name under which test code knows them, in messages too
 for _class in (Answer, Controller, Refused, Row, State, Step, Unknown, Waiting, WrongSize):

@@ -28,10 +28,13 @@ class Refused(Exception):
     """The controller refused the step and did not change.
 
     number is document 01's, text what it stands for, call the step in words; address and value are those of a register call,
-    else None, as the value of a read is.
+    else None, as the value of a read is. The message is number and text; repr has the rest too.
 
-    >>> print(Refused(6, "write of $11 to BFFSIZR $01", 0x01, 0x11))
-    refused 6: FSIZ above 16 (write of $11 to BFFSIZR $01)
+    >>> refused = Refused(6, "write of $11 to BFFSIZR $01", 0x01, 0x11)
+    >>> print(refused)
+    refused 6: FSIZ above 16
+    >>> refused
+    Refused(6, 'write of $11 to BFFSIZR $01', 1, 17)
     """
 
     def __init__(self, number: int, call: str = "", address: Optional[int] = None, value: Optional[int] = None) -> None:
@@ -43,7 +46,7 @@ class Refused(Exception):
         self.value = value
 
     def __str__(self) -> str:
-        return f"refused {self.number}: {self.text}" + (f" ({self.call})" if self.call else "")
+        return f"refused {self.number}: {self.text}"
 
 
 class Unknown(ValueError):

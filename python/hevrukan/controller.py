@@ -18,6 +18,7 @@ RESET, READ, WRITE, SYNC, SYNC_DUE, SLOT, FRAME, FAULT, TIMEOUT = range(9)
 _KINDS = {"R": READ, "W": WRITE, "S": SYNC, "M": SYNC_DUE, "T": SLOT, "F": FRAME, "P": FAULT, "Q": TIMEOUT}
 _LARGEST = 0xFFFFFFFF
 _ROOM = 14
+_UNSET = 33  # the place of the record's one byte that is no field's
 # never of no bytes, so that its address is one
 _NO_ROOM = (ctypes.c_uint8 * 1)()
 
@@ -32,10 +33,23 @@ def _frame_bytes(data: FrameBytes) -> bytes:
     return bytes(data)
 
 
-def _in_words(kind: int, first: int = 0, second: int = 0, frame: bytes = b"", room: int = 0) -> str:
-    """A step, for the message of an exception."""
+def _called(kind: int, first: int, second: int, frame: bytes, room: int) -> str:
+    """A step as it was called, for the message of an exception."""
     return {
-        RESET: "reset",
+        READ: f"read({first})",
+        WRITE: f"write({first}, {second})",
+        SYNC: f"sync({first})",
+        SYNC_DUE: "sync_due()",
+        SLOT: f"slot({first}, {room})",
+        FRAME: f"frame({frame!r}, {first})",
+        FAULT: f"fault({first})",
+        TIMEOUT: "timeout()",
+    }[kind]
+
+
+def _in_words(kind: int, first: int, second: int, frame: bytes, room: int) -> str:
+    """A step in words, for what was refused."""
+    return {
         READ: f"read of {address_text(first)}",
         WRITE: f"write of ${second:02X} to {address_text(first)}",
         SYNC: f"sync {first}",
@@ -45,10 +59,6 @@ def _in_words(kind: int, first: int = 0, second: int = 0, frame: bytes = b"", ro
         FAULT: f"fault {first}",
         TIMEOUT: "timeout",
     }[kind]
-
-
-def _unknown(*call: Any) -> Unknown:
-    return Unknown(f"{_in_words(*call)}: a number is out of range")
 
 
 class Controller:
@@ -67,7 +77,7 @@ class Controller:
     >>> c == d, d.write(BFTCR1, 2).word, c == d, c.read(BFTCR1)
     (True, 'ok', False, 0)
 
-    Two controllers are equal if the library's records of them are, byte by byte. The same steps from reset make equal
+    Two controllers are equal if the library's records of them are, field by field. The same steps from reset make equal
     controllers, and equal ones answer every step alike from then on. What two of them show is compared with c.state() == d.state().
     """
 
@@ -85,7 +95,7 @@ class Controller:
 
     def reset(self) -> Answer:
         """Resets the controller: ok."""
-        return self._answer(self._library.hevrukan_reset(self._record, self._size), None, RESET)
+        return self._answer(self._library.hevrukan_reset(self._record, self._size), None, "reset()")
 
     def read(self, address: int) -> int:
         """The value of a register. Refused 1 or 2. It changes nothing.
@@ -106,7 +116,7 @@ class Controller:
         >>> Controller().write(BFFSIZR, 17)
         Traceback (most recent call last):
             ...
-        hevrukan.Refused: refused 6: FSIZ above 16 (write of $11 to BFFSIZR $01)
+        hevrukan.Refused: refused 6: FSIZ above 16
         """
         return self._step(WRITE, address, value)
 
@@ -160,22 +170,23 @@ class Controller:
         """A step and its answer, be it a refusal."""
         first, second, room = operator.index(first), operator.index(second), operator.index(room)
         if first < 0 or second < 0 or room < 0:
-            raise _unknown(kind, first, second, frame, room)
+            raise Unknown(f"{_called(kind, first, second, frame, room)}: a number is out of range")
         # no more bytes of a room are written than a frame has
         lent = (ctypes.c_uint8 * min(room, _ROOM))() if room else _NO_ROOM
         # ctypes would cut a number to 32 bits; the largest of these is out of range wherever a larger one is
         answer = self._library.hevrukan_step(
             self._record, self._size, kind, min(first, _LARGEST), min(second, _LARGEST), frame, len(frame), lent, min(room, _ROOM)
         )
-        return self._answer(answer, lent, kind, first, second, frame, room)
+        # the words are made where they are needed
+        return self._answer(answer, lent, _called(kind, first, second, frame, room) if answer >> 8 & 0xFF >= UNKNOWN else "")
 
     @staticmethod
-    def _answer(answer: int, lent: Any, kind: int, *arguments: Any) -> Answer:
+    def _answer(answer: int, lent: Any, call: str) -> Answer:
         number, detail = answer >> 8 & 0xFF, answer & 0xFF
         if number == UNKNOWN:
-            raise _unknown(kind, *arguments)
+            raise Unknown(f"{call}: a number is out of range")
         if number == WRONG_SIZE:
-            raise WrongSize("the record isn't of the library's size")
+            raise WrongSize(f"{call}: the record isn't of the library's size")
         word = WORDS[number]
         if word is Word.SENT:
             return Answer(word, bytes(lent[:detail]))
@@ -189,7 +200,7 @@ class Controller:
         """The five interrupt lines, 0 to 31: LINE_FIFO and so on."""
         lines: int = self._library.hevrukan_lines(self._record, self._size)
         if lines >> 8:
-            self._answer(lines, None, RESET)
+            self._answer(lines, None, "lines()")
         return lines
 
     def state(self) -> State:
@@ -240,7 +251,12 @@ class Controller:
     def __eq__(self, other: object) -> bool:
         if not isinstance(other, Controller):
             return NotImplemented
-        return bytes(self._record) == bytes(other._record)
+        return self._fields() == other._fields()
+
+    def _fields(self) -> bytes:
+        """the record without the one byte that is no field's"""
+        record = bytes(self._record)
+        return record[:_UNSET] + record[_UNSET + 1 :]
 
     def __repr__(self) -> str:
         waiting = len(self._waiting())

@@ -61,6 +61,10 @@ class Sync(enum.IntEnum):
     NORMAL = 0
     ALARM = 1
 
+    # as a number, in every version of Python
+    __str__ = int.__repr__
+    __format__ = int.__format__
+
 
 class Fault(enum.IntEnum):
     """The faults that the bus can show."""
@@ -69,6 +73,9 @@ class Fault(enum.IntEnum):
     LOST = 1
     ILLEGAL = 2
     MISMATCH = 3
+
+    __str__ = int.__repr__
+    __format__ = int.__format__
 
 
 NORMAL_PULSE, ALARM_PULSE = Sync.NORMAL, Sync.ALARM
@@ -110,6 +117,9 @@ class Register(enum.IntEnum):
     BFFDATA6, BFFDATA7, BFFDATA8, BFFDATA9, BFFDATA10, BFFDATA11 = range(0x48, 0x4E)
     BFBUFCTL0, BFBUFCTL1, BFBUFCTL2, BFBUFCTL3, BFBUFCTL4, BFBUFCTL5, BFBUFCTL6, BFBUFCTL7 = range(0x50, 0x58)
     BFBUFCTL8, BFBUFCTL9, BFBUFCTL10, BFBUFCTL11, BFBUFCTL12, BFBUFCTL13, BFBUFCTL14, BFBUFCTL15 = range(0x58, 0x60)
+
+    __str__ = int.__repr__
+    __format__ = int.__format__
 
 
 BFMCR, BFFSIZR = Register.BFMCR, Register.BFFSIZR

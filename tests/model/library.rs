@@ -87,8 +87,7 @@ record!(Locks {
 record!(Places {
     first: u8,
     second: u8,
-    swapped: u8,
-    unused: u8
+    swapped: u8
 });
 record!(Buffers {
     cfg: u16,
@@ -256,7 +255,7 @@ pub fn size() -> usize {
 const GUARD: usize = 16;
 const GUARDED: u8 = 0xC3;
 
-/// A record of the library. It lies in plain bytes, so that those about it can be compared too.
+/// A record of the library. It lies in plain bytes, so that the one between its fields and those about it can be compared too.
 #[repr(C, align(8))]
 pub struct Library {
     bytes: [u8; GUARD + SIZE + GUARD],

@@ -86,7 +86,6 @@ fn record_of(model: &Controller) -> Record {
                 first: first.buffer,
                 second: second.buffer,
                 swapped: u8::from(first.arrival > second.arrival),
-                unused: 0,
             },
             buffers: Buffers {
                 cfg: model.transmit,
