@@ -1,7 +1,6 @@
 -- The entries of alike sessions.
-use Rattle.std.specs.Prelude.{◌≡◌, List, map}
+use Rattle.std.specs.Prelude.{◌≡◌, List, map, Option}
 use Rattle.std.proofs.Common.{sym, ap₂, ◌∙◌}
-use Rattle.std.proofs.Math.Option.{Option}
 use Rattle.rules.specs.Flags.{lines_of as irq_of}
 use Rattle.rules.specs.Steps.{Step}
 use Rattle.controller.specs.Carry.{reset_state}

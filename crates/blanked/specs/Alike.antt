@@ -1,6 +1,5 @@
 -- Document 01, 'Demand 3 in full', carried to recordings: when two are alike, and what of their reports is compared.
-use Rattle.std.specs.Prelude.{ℕ, ◌≡◌, Bool, List, [], ◌∷◌, ◌++◌, map}
-use Rattle.std.proofs.Math.Option.{Option, none, some}
+use Rattle.std.specs.Prelude.{ℕ, ◌≡◌, Bool, List, [], ◌∷◌, ◌++◌, map, Option, Some, None}
 use Rattle.rules.specs.Steps.{Step, hide}
 use Rattle.report.specs.Text.{heading_of}
 use Rattle.blanked.specs.Entries.{read_lines, step_at, steps_at, Entry, stepped, unread, entries_of, rows_from}
@@ -9,8 +8,8 @@ use Rattle.pieces.specs.Lines.{Line}
 
 -- what is public of a line's step: the step with the payload put to 0, or that it is unread
 abbrev pub hide_step : Option Step → Option Step
-hide_step none = none
-hide_step (some e) = some (hide e)
+hide_step None = None
+hide_step (Some e) = Some (hide e)
 
 -- what is public of a line: its step with the payload put to 0 or that it is unread, and whether an LF ended it
 pub record Public : Type 0 where
@@ -28,9 +27,9 @@ AlikeText t u = map public_of (read_lines t) ≡ map public_of (read_lines u)
 
 -- an entry with those put to 0, by the line's step
 abbrev pub seen_entry : Option Step → Entry → Entry
-seen_entry none x = x
-seen_entry (some e) (stepped r) = stepped (seen e r)
-seen_entry (some e) (unread irq) = unread irq
+seen_entry None x = x
+seen_entry (Some e) (stepped r) = stepped (seen e r)
+seen_entry (Some e) (unread irq) = unread irq
 
 abbrev pub seen_beside : List (Option Step) → List Entry → List Entry
 seen_beside [] xs = []

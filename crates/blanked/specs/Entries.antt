@@ -1,20 +1,18 @@
 -- A recording's report in terms of one session: the reports of the steps that its lines are, from reset, with an entry for every
 -- line that is no step between them.
-use Rattle.std.specs.Prelude.{ℕ, ◌+◌, List, [], ◌∷◌, ◌++◌, map, take}
-use Rattle.std.proofs.Math.Option.{Option, none, some}
+use Rattle.std.specs.Prelude.{ℕ, ◌+◌, List, [], ◌∷◌, ◌++◌, map, take, Option, Some, None}
 use Rattle.rules.specs.Flags.{lines_of as irq_of}
 use Rattle.rules.specs.Steps.{Step}
 use Rattle.controller.specs.declared.Controller.{Controller}
 use Rattle.lines.specs.declared.FrameBytes.{FrameBytes}
 use Rattle.controller.specs.Carry.{reset_state}
 use Rattle.controller.specs.Session.{Report, run_of}
-use Rattle.lines.specs.declared.Line.{Line as Reading}
-use Rattle.lines.specs.declared.Line.TheVariants.{Means, Unread}
 use Rattle.lines.specs.declared.Parsed.{Parsed}
 use Rattle.lines.specs.Grammar.{line_of}
 use Rattle.report.specs.Text.{row_of, unread_row}
 use Rattle.pieces.specs.Lines.{Line, text_lines}
 use Rattle.replaying.specs.Replay.{step_in}
+use Rattle.controller.specs.declared.Call.{Call}
 
 -- ---- the steps of a recording
 
@@ -23,9 +21,9 @@ unfoldable pub read_lines : List ℕ → List Line
 read_lines t = take 999999 (text_lines t)
 
 -- the step that a line is, none where it is unread
-unfoldable pub step_beside : Reading → FrameBytes → Option Step
-step_beside (Means call) f = some (step_in call f)
-step_beside Unread f = none
+unfoldable pub step_beside : Option Call → FrameBytes → Option Step
+step_beside (Some call) f = Some (step_in call f)
+step_beside None f = None
 
 abbrev pub parsed_step : Parsed → Option Step
 parsed_step q = step_beside q.line q.frame
@@ -42,8 +40,8 @@ steps_at ls = map step_at ls
 -- the steps alone
 abbrev pub only_steps : List (Option Step) → List Step
 only_steps [] = []
-only_steps (none ∷ os) = only_steps os
-only_steps (some e ∷ os) = e ∷ only_steps os
+only_steps (None ∷ os) = only_steps os
+only_steps (Some e ∷ os) = e ∷ only_steps os
 
 -- ---- the entries of its report
 
@@ -57,9 +55,9 @@ pub data Entry : Type 0 where
 -- (`run_length`)
 abbrev pub weave : ℕ → List (Option Step) → List Report → List Entry
 weave irq [] rs = []
-weave irq (none ∷ os) rs = unread irq ∷ weave irq os rs
-weave irq (some e ∷ os) [] = []
-weave irq (some e ∷ os) (r ∷ rs) = stepped r ∷ weave r.lines os rs
+weave irq (None ∷ os) rs = unread irq ∷ weave irq os rs
+weave irq (Some e ∷ os) [] = []
+weave irq (Some e ∷ os) (r ∷ rs) = stepped r ∷ weave r.lines os rs
 
 -- from the record c on: the reports of one session
 abbrev pub entries_from : Controller → List (Option Step) → List Entry

@@ -1,8 +1,7 @@
 -- Towards proofs/HidingLaws.antt: zeros as digits, the line of a step with its payload put to 0, and how that is read.
-use Rattle.std.specs.Prelude.{ℕ, ◌≤◌, ◌≡◌, Bool, List, [], ◌∷◌, ◌++◌, length, replicate}
+use Rattle.std.specs.Prelude.{ℕ, ◌≤◌, ◌≡◌, Bool, List, [], ◌∷◌, ◌++◌, length, replicate, Option, Some, None}
 use Rattle.std.proofs.Math.Path.{refl}
 use Rattle.std.proofs.Common.{sym, ap, ◌∙◌, arith}
-use Rattle.std.proofs.Math.Option.{Option, none, some}
 use Rattle.masks.specs.Pick.{pick}
 use Rattle.masks.specs.PickLaws.{pick_true, pick-false, pick-keeps, by-test}
 use Rattle.contents.specs.Payload.{zeros, hide_data}
@@ -22,13 +21,13 @@ use Rattle.blanked.specs.TextReadLaws.{text-read, unread-read}
 use Rattle.blanked.specs.Alike.{hide_step}
 
 pub hidden-again : (o : Option Step) → hide_step (hide_step o) ≡ hide_step o
-hidden-again none = refl
-hidden-again (some e) = ap {B = Option Step} some (hide-again e)
+hidden-again None = refl
+hidden-again (Some e) = ap {B = Option Step} Some (hide-again e)
 
 -- the line that stands for it
 abbrev pub line_text : Option Step → List ℕ
-line_text none = unread_text
-line_text (some e) = step_text e
+line_text None = unread_text
+line_text (Some e) = step_text e
 
 -- ---- zeros as digits
 
@@ -90,5 +89,5 @@ fits-hide (fault k) h = h
 fits-hide timeout h = h
 
 pub hidden-read : (s : List ℕ) (o : Option Step) → Says s o → read_step (line_text (hide_step o)) ≡ hide_step o
-hidden-read s none h = unread-read
-hidden-read s (some e) h = text-read (hide e) (fits-hide e h.1)
+hidden-read s None h = unread-read
+hidden-read s (Some e) h = text-read (hide e) (fits-hide e h.1)

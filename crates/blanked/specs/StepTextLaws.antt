@@ -1,9 +1,8 @@
 -- The line of a step. The grammar has one line for each step: a line that is read is the line of its step.
-use Rattle.std.specs.Prelude.{ℕ, zero, suc, ◌+◌, ◌≤◌, ◌≡◌, refl, Bool, get_or, drop, length, replicate}
+use Rattle.std.specs.Prelude.{ℕ, zero, suc, ◌+◌, ◌≤◌, ◌≡◌, refl, Bool, get_or, drop, length, replicate, Option, Some, None}
 use Rattle.std.proofs.Common.{sym, ◌∙◌, arith, add-zero, drop_of_length-le, drop-cons}
 use Rattle.std.proofs.Math.Path.{ap, ap₂}
 use Rattle.std.proofs.Math.Bool.{true, false}
-use Rattle.std.proofs.Math.Option.{Option, none, some}
 use mathlib.Core.List.{List, [], ◌∷◌, ◌++◌, append-nil}
 use borrow.Author.Tests.{eqb-true, ltb-false}
 use Rattle.std.proofs.Math.Dec.{eqb, ltb}
@@ -12,12 +11,12 @@ use Rattle.contents.specs.Bytes.{bytes_from}
 use Rattle.rules.specs.declared.Fault.{Fault}
 use Rattle.rules.specs.declared.Fault.TheVariants.{Early, Lost, Illegal, Mismatch}
 use Rattle.rules.specs.Steps.{Step, reset, read, write, sync, sync_due, slot, frame, fault, timeout}
-use Rattle.lines.specs.declared.Line.{Line as Reading}
 use Rattle.lines.specs.Grammar.{no_frame, byte_of, one_of, sync_of, fault_of, three_of, four_of, seven_of, short_of}
 use Rattle.report.specs.Text.{hex_of, hexes_of, kind_text}
 use Rattle.replaying.specs.Replay.{step_in}
 use Rattle.blanked.specs.DigitLaws.{byte-hex}
 use Rattle.blanked.specs.Entries.{step_beside}
+use Rattle.controller.specs.declared.Call.{Call}
 
 -- ---- the line of a step
 
@@ -63,8 +62,8 @@ Fits timeout = Unit {0}
 
 -- what the line s says: where it is read, it is the line of its step
 abbrev pub Says : List ℕ → Option Step → Type 0
-Says s none = Unit {0}
-Says s (some e) = (s ≡ step_text e) × Fits e
+Says s None = Unit {0}
+Says s (Some e) = (s ≡ step_text e) × Fits e
 
 -- ---- lists by their places
 
@@ -86,7 +85,7 @@ all-spelled k s e =
 -- ---- lines without a frame
 
 module _ (s : List ℕ) where
-  abbrev pub SaysReading : Reading → Type 0
+  abbrev pub SaysReading : Option Call → Type 0
   SaysReading k = Says s (step_beside k no_frame)
 
   one-says : (a : ℕ) → s ≡ a ∷ [] → SaysReading (one_of a)

@@ -2,3 +2,4 @@
 pub mod Runs
 -- nothing to believe: laws
 pub mod RunLaws
+mod PutLaws

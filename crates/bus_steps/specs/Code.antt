@@ -6,6 +6,7 @@ use Rattle.contents.specs.Bytes.{Head}
 use Rattle.rules.specs.declared.SyncKind.{SyncKind}
 use Rattle.rules.specs.declared.Answer.{Answer}
 use Rattle.rules.specs.declared.Answer.TheVariants.{Value, Pulse, Ignored}
+use Rattle.rules.specs.declared.Target.TheVariants.{Buffer, Place}
 use Rattle.rules.specs.declared.Verdict.{Verdict}
 use Rattle.rules.specs.declared.Verdict.TheVariants.{Say, Store, Send}
 use Rattle.rules.specs.declared.Ruling.{Ruling}
@@ -22,8 +23,8 @@ storing (wipe ∷ ms) a = Say a
 storing (set_ident n v ∷ ms) a = Say a
 storing (set_length n v ∷ ms) a = Say a
 storing (set_data n j ∷ ms) a = Say a
-storing (store n ∷ ms) a = Store n 2 a
-storing (hold k ∷ ms) a = Store 16 k a
+storing (store n ∷ ms) a = Store (Buffer n) a
+storing (hold k ∷ ms) a = Store (Place k) a
 storing (release k n ∷ ms) a = Say a
 
 abbrev pub verdict_of : List Move → Reply → Verdict

@@ -1,16 +1,17 @@
 -- What becomes of a frame, as the verdict on it and its marks in the control state, and that this is the rules' ruling.
-use Rattle.std.specs.Prelude.{ℕ, ◌<◌, max, Bool, true, false, ◌&&◌, [], ◌∷◌, ◌≡◌, ltb, leb}
-use Rattle.std.proofs.Math.Path.{refl, ap}
-use Rattle.std.proofs.Common.{sym, ◌∙◌}
+use Rattle.std.specs.Prelude.{ℕ, ◌<◌, max, Option, Some, None, Bool, true, false, ◌&&◌, [], ◌∷◌, ◌≡◌, ltb, leb}
+use Rattle.std.proofs.Math.Path.{refl}
+use Rattle.std.proofs.Common.{◌∙◌}
 use borrow.Author.Tests.{lt-ltb}
 use Rattle.std.proofs.Math.Dec.{eqb}
 use Rattle.std.specs.Int.Bits.{bit_or, or_zero_r}
 use Rattle.masks.specs.Pick.{pick}
-use Rattle.masks.specs.PickLaws.{pick_true, pick-false}
+use Rattle.masks.specs.PickLaws.{pick_true, pick-false, by-test}
 use Rattle.masks.specs.Bits.{bit_of, mask_of, put_bit}
 use Rattle.masks.specs.Laws.{own, or-by, put-with}
 use Rattle.locks.specs.Pair.{none}
 use Rattle.rules.specs.declared.Answer.TheVariants.{Stored, Queued, Waiting, HeldOff, Overrun, Unmatched, BadFrame, Ignored}
+use Rattle.rules.specs.declared.Target.TheVariants.{Buffer, Place}
 use Rattle.rules.specs.declared.Verdict.{Verdict}
 use Rattle.rules.specs.declared.Ruling.{Ruling}
 use Rattle.rules.specs.declared.Verdict.TheVariants.{Say, Store}
@@ -45,14 +46,23 @@ abbrev pub raising : Places → Verdict → Outcome
 raising p v = record { verdict = v; slprq = false; raises = true; iflg = 0; gisr = 0; queues = false; places = p }
 
 abbrev pub waits_in : Places → ℕ → ℕ → Outcome
-waits_in p k n = raising (occupied p k n) (Store 16 k (Waiting n))
+waits_in p k n = raising (occupied p k n) (Store (Place k) (Waiting n))
 
 abbrev pub held_off : Places → ℕ → Outcome
 held_off p n = raising p (Say (HeldOff n))
 
+-- the place that a frame takes: the first if it is free, else the second, else none
+unfoldable pub free_place : Places → Option ℕ
+free_place p = pick (leb none p.first) (Some 0) (pick (leb none p.second) (Some 1) None)
+
+-- a frame for buffer n, which is locked, by the place that it takes
+abbrev pub placed_by : Places → ℕ → Option ℕ → Outcome
+placed_by p n None = held_off p n
+placed_by p n (Some k) = waits_in p k n
+
 abbrev pub stored : Places → ℕ → Outcome
 stored p n =
-    record { verdict = Store n 2 (Stored n); slprq = false; raises = true; iflg = mask_of (λ k. eqb k n); gisr = 0; queues = false; places = p }
+    record { verdict = Store (Buffer n) (Stored n); slprq = false; raises = true; iflg = mask_of (λ k. eqb k n); gisr = 0; queues = false; places = p }
 
 abbrev pub unmatched : Places → Outcome
 unmatched p = raising p (Say Unmatched)
@@ -61,7 +71,7 @@ abbrev pub overrun : Places → Outcome
 overrun p = record { verdict = Say Overrun; slprq = false; raises = true; iflg = 0; gisr = OVRNIF; queues = false; places = p }
 
 abbrev pub queued : Places → ℕ → Outcome
-queued p n = record { verdict = Store n 2 (Queued n); slprq = false; raises = true; iflg = 0; gisr = 0; queues = true; places = p }
+queued p n = record { verdict = Store (Buffer n) (Queued n); slprq = false; raises = true; iflg = 0; gisr = 0; queues = true; places = p }
 
 -- ---- the control state with its marks
 
@@ -107,22 +117,12 @@ module _ (c : Control) (i : ℕ) where
   unfolding marked risen entered pick raise_last cancel
   waits-ruled k n = simp (or_zero_r)
 
-  -- where the frame's buffer is locked: the first place if it is free, else the second, else none
-  pub in-first-ruled : (n : ℕ) → leb none c.places.first ≡ true → ruled_by c i (waits_in c.places 0 n) ≡ ruling_of (to_place (raise_last (cancel c) i) n)
-  unfolding to_place raise_last cancel
-  in-first-ruled n e = waits-ruled 0 n ∙ ap ruling_of (sym (pick_true (leb none c.places.first) _ _ e))
-
-  pub in-second-ruled : (n : ℕ) → leb none c.places.first ≡ false → leb none c.places.second ≡ true →
-      ruled_by c i (waits_in c.places 1 n) ≡ ruling_of (to_place (raise_last (cancel c) i) n)
-  unfolding to_place raise_last cancel
-  in-second-ruled n e f =
-      waits-ruled 1 n ∙ ap ruling_of (sym (pick-false (leb none c.places.first) _ _ e ∙ pick_true (leb none c.places.second) _ _ f))
-
-  pub no-place-ruled : (n : ℕ) → leb none c.places.first ≡ false → leb none c.places.second ≡ false →
-      ruled_by c i (held_off c.places n) ≡ ruling_of (to_place (raise_last (cancel c) i) n)
-  unfolding to_place raise_last cancel
-  no-place-ruled n e f =
-      held-ruled n ∙ ap ruling_of (sym (pick-false (leb none c.places.first) _ _ e ∙ pick-false (leb none c.places.second) _ _ f))
+  -- where the frame's buffer is locked
+  pub place-ruled : (n : ℕ) → ruled_by c i (placed_by c.places n (free_place c.places)) ≡ ruling_of (to_place (raise_last (cancel c) i) n)
+  unfolding to_place free_place raise_last cancel
+  place-ruled n =
+      by-test (leb none c.places.first) (λ e. simp (pick_true, e) (waits-ruled 0 n))
+      (λ e. by-test (leb none c.places.second) (λ f. simp (pick_true, pick-false, e, f) (waits-ruled 1 n)) (λ f. simp (pick-false, e, f) (held-ruled n)))
 
   pub unmatched-ruled : ruled_by c i (unmatched c.places) ≡ ruling_of (plain (raise_last (cancel c) i) Unmatched)
   unfolding marked risen entered pick raise_last cancel

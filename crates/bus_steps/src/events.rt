@@ -7,12 +7,12 @@ use modes::wake;
 use rules::bits::{ILLPIF, SLMMIF, SYNAIF, SYNEIF, SYNLIF, SYNNIF, WAKEIF, XSYNIF};
 use rules::{Control, Events, Fault, SyncKind};
 
+// Two functions of one line: a common one would be handed the field by a closure.
 fn raise_gisr(c: Control, b: u8) -> Control
     ensures { result ≡ raise_gisr c b }
 {
     let mut next = c;
-    let gisr = c.events.gisr | b;
-    next.events.gisr = gisr;
+    next.events.gisr |= b;
     next
 }
 
@@ -20,12 +20,12 @@ fn raise_risr(c: Control, b: u8) -> Control
     ensures { result ≡ raise_risr c b }
 {
     let mut next = c;
-    let risr = c.events.risr | b;
-    next.events.risr = risr;
+    next.events.risr |= b;
     next
 }
 
 // Woken by the bus, which sets WAKEIF; a waking write of $00 doesn't.
+#[tactic(auto, unfolding(rules::specs::Bus::woken))]
 pub(crate) fn woken(c: Control) -> Control
     ensures { result ≡ woken c }
 {
@@ -42,39 +42,36 @@ fn sync_flag(k: SyncKind) -> u8
 }
 
 // SYNNIF or SYNAIF, and XSYNIF; a remembered SYNLIF clear acts now.
+#[tactic(auto, unfolding(rules::specs::Bus::sync_events, masks::specs::Pick::pick))]
 pub(crate) fn sync_events(f: Events, k: SyncKind) -> Events
     ensures { result ≡ sync_events k f }
 {
-    let mut next = f;
-    let risr = f.risr | sync_flag(k) | XSYNIF;
-    next.risr = risr;
-    if f.clearing {
-        let gisr = f.gisr & !SYNLIF;
-        next.gisr = gisr;
+    Events {
+        risr: f.risr | sync_flag(k) | XSYNIF,
+        gisr: if f.clearing { f.gisr & !SYNLIF } else { f.gisr },
+        clearing: false,
     }
-    next.clearing = false;
-    next
 }
 
 // SYNLIF set. A clear that still waits is forgotten, or the next sync would clear the flag that was set now.
+#[tactic(auto, unfolding(rules::specs::Bus::lost_events))]
 fn lost_events(f: Events) -> Events
     ensures { result ≡ lost_events f }
 {
-    let mut next = f;
-    let gisr = f.gisr | SYNLIF;
-    next.gisr = gisr;
-    next.clearing = false;
-    next
+    Events {
+        gisr: f.gisr | SYNLIF,
+        clearing: false,
+        ..f
+    }
 }
 
 // Synchronization lost: SYNLIF, unsynchronized, nothing armed.
+#[tactic(auto, unfolding(rules::specs::Bus::faulted))]
 fn lost(c: Control) -> Control
     ensures { result ≡ faulted Lost c }
 {
     let mut next = c;
-    let f = c.events;
-    let events = lost_events(f);
-    next.events = events;
+    next.events = lost_events(c.events);
     next.mode.synced = false;
     next.buffers.armed = 0;
     next

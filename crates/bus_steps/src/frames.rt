@@ -2,16 +2,17 @@
 // Where each outcome has a next state of its own, the compiler copies the whole state once more wherever two of them meet; where the
 // outcome is an enum, each match on it later is one more jump.
 ghost use Rattle.std.specs.Prelude.{◌≡◌, ℕ};
+ghost use Rattle.masks.specs.Bits.{number_in};
 ghost use Rattle.rules.specs.Modes.{cancel};
 ghost use Rattle.rules.specs.Bus.{to_place, to_buffer, fifo_takes, to_fifo, raise_last, judged};
 ghost use Rattle.bus_steps.specs.Code.{ruling_of};
-ghost use Rattle.bus_steps.specs.CodeMarks.{unmarked, raising, risen, entered, marked, ruled_by};
+ghost use Rattle.bus_steps.specs.CodeMarks.{free_place, unmarked, raising, risen, entered, marked, ruled_by};
 
 use kinds::{is_locked, place_after};
 use masks::NONE;
 use rules::bits::{ERRIF, OVRNIF};
-use rules::{Answer, Control, Fifo, Places, Verdict};
-use waiting::{in_first, in_second};
+use rules::{Answer, Control, Fifo, Places, Target, Verdict};
+use waiting::taken;
 
 // What becomes of a frame: the verdict on it, and its marks in the control state.
 #[derive(Clone, Copy)]
@@ -36,7 +37,7 @@ fn unmarked(p: Places, verdict: Verdict) -> Outcome
     ensures { result ≡ unmarked p verdict }
 {
     Outcome {
-        verdict: verdict,
+        verdict,
         slprq: false,
         raises: false,
         iflg: 0,
@@ -50,9 +51,10 @@ fn unmarked(p: Places, verdict: Verdict) -> Outcome
 fn raising(p: Places, verdict: Verdict) -> Outcome
     ensures { result ≡ raising p verdict }
 {
-    let mut sound = unmarked(p, verdict);
-    sound.raises = true;
-    sound
+    Outcome {
+        raises: true,
+        ..unmarked(p, verdict)
+    }
 }
 
 // The FIFO takes identifier i: FSIZ is not 0, the acceptance filter matches it and the rejection filter doesn't reject it.
@@ -60,9 +62,21 @@ fn raising(p: Places, verdict: Verdict) -> Outcome
 fn fifo_takes(c: Control, i: u8) -> bool
     ensures { result ≡ fifo_takes c i }
 {
-    let accept = c.config.accept;
-    let reject = c.config.reject;
-    0 < c.config.fsiz && accept.matches(i) && !reject.rejects(i)
+    0 < c.config.fsiz && c.config.accept.matches(i) && !c.config.reject.rejects(i)
+}
+
+// The place that a frame takes: the first if it is free, else the second, else none.
+#[tactic(auto, unfolding(crate::specs::CodeMarks::free_place, masks::specs::Pick::pick))]
+fn free_place(p: Places) -> Option<u8>
+    ensures { result ≡ free_place p }
+{
+    if NONE <= p.first {
+        Some(0)
+    } else if NONE <= p.second {
+        Some(1)
+    } else {
+        None
+    }
 }
 
 // A frame for buffer n, which is locked: it takes a free place, or is dropped.
@@ -70,13 +84,13 @@ fn to_place(c: Control, n: u8) -> Outcome
     ensures { (i : ℕ) → ruled_by c i result ≡ ruling_of (to_place (raise_last (cancel c) i) n) }
 {
     let p = c.places;
-    if NONE <= p.first {
-        return raising(in_first(p, n), Verdict::Store(NONE, 0, Answer::Waiting(n)));
+    match free_place(p) {
+        Some(k) => raising(
+            taken(p, k, n),
+            Verdict::Store(Target::Place(k), Answer::Waiting(n)),
+        ),
+        None => raising(p, Verdict::Say(Answer::HeldOff(n))),
     }
-    if NONE <= p.second {
-        return raising(in_second(p, n), Verdict::Store(NONE, 1, Answer::Waiting(n)));
-    }
-    raising(p, Verdict::Say(Answer::HeldOff(n)))
 }
 
 // A frame for dedicated receive buffer n.
@@ -86,10 +100,11 @@ fn to_buffer(c: Control, n: u8) -> Outcome
     if is_locked(c, n) {
         return to_place(c, n);
     }
-    let p = c.places;
-    let mut stored = raising(p, Verdict::Store(n, 2, Answer::Stored(n)));
-    stored.iflg = masks::one(n);
-    stored
+    let stored = Verdict::Store(Target::Buffer(n), Answer::Stored(n));
+    Outcome {
+        iflg: masks::one(n),
+        ..raising(c.places, stored)
+    }
 }
 
 // A frame that no dedicated receive buffer carries.
@@ -101,76 +116,78 @@ fn to_fifo(c: Control, i: u8) -> Outcome
         return raising(p, Verdict::Say(Answer::Unmatched));
     }
     if c.config.fsiz <= c.fifo.count {
-        let mut overrun = raising(p, Verdict::Say(Answer::Overrun));
-        overrun.gisr = OVRNIF;
-        return overrun;
+        return Outcome {
+            gisr: OVRNIF,
+            ..raising(p, Verdict::Say(Answer::Overrun))
+        };
     }
     let n = c.fifo.next;
-    let mut queued = raising(p, Verdict::Store(n, 2, Answer::Queued(n)));
-    queued.queues = true;
-    queued
+    let queued = Verdict::Store(Target::Buffer(n), Answer::Queued(n));
+    Outcome {
+        queues: true,
+        ..raising(p, queued)
+    }
 }
 
-// A frame with identifier i in normal operation, awake, whose dedicated receive buffer is n, NONE if there is none: ignored if
+// A frame with identifier i in normal operation, awake, whose dedicated receive buffer is n, if there is one: ignored if
 // unsynchronized, 'badframe', else to its buffer or the FIFO.
-pub(crate) fn judged(c: Control, good: bool, i: u8, n: u8) -> Outcome
-    ensures { ruled_by c i result ≡ ruling_of (judged c good i n) }
+pub(crate) fn judged(c: Control, good: bool, i: u8, n: Option<u8>) -> Outcome
+    ensures { ruled_by c i result ≡ ruling_of (judged c good i (number_in n)) }
 {
     let p = c.places;
     if !c.mode.synced {
-        let mut ignored = unmarked(p, Verdict::Say(Answer::Ignored));
-        ignored.slprq = c.mode.slprq;
-        return ignored;
+        return Outcome {
+            slprq: c.mode.slprq,
+            ..unmarked(p, Verdict::Say(Answer::Ignored))
+        };
     }
     if !good || i == 0 {
-        let mut bad = unmarked(p, Verdict::Say(Answer::BadFrame));
-        bad.gisr = ERRIF;
-        return bad;
+        return Outcome {
+            gisr: ERRIF,
+            ..unmarked(p, Verdict::Say(Answer::BadFrame))
+        };
     }
-    if n < NONE {
-        return to_buffer(c, n);
+    match n {
+        Some(n) if n < NONE => to_buffer(c, n),
+        _ => to_fifo(c, i),
     }
-    to_fifo(c, i)
 }
 
 // The last identifier after a frame with identifier i.
+#[tactic(auto, unfolding(crate::specs::CodeMarks::risen, masks::specs::Pick::pick))]
 fn risen(last: u8, raises: bool, i: u8) -> u8
     ensures { result ≡ risen last raises i }
 {
-    if raises && last < i { i } else { last }
+    if raises { last.max(i) } else { last }
 }
 
 // The FIFO after a frame. Where the frame queues there is room (`to_fifo`); asked again here, so that the function is total.
+#[tactic(auto, unfolding(crate::specs::CodeMarks::entered, masks::specs::Pick::pick))]
 fn entered(c: Control, queues: bool) -> Fifo
     ensures { result ≡ entered c queues }
 {
-    let mut f = c.fifo;
-    if queues && c.fifo.count < c.config.fsiz {
-        let next = place_after(c.config.fsiz, c.fifo.next);
-        let count = c.fifo.count + 1;
-        f.next = next;
-        f.count = count;
-        return f;
+    let f = c.fifo;
+    if queues && f.count < c.config.fsiz {
+        return Fifo {
+            next: place_after(c.config.fsiz, f.next),
+            count: f.count + 1,
+            ..f
+        };
     }
     f
 }
 
 // The control state after a frame with identifier i and outcome o.
+#[tactic(auto, unfolding(crate::specs::CodeMarks::marked))]
 pub(crate) fn marked(c: Control, o: Outcome, i: u8) -> Control
     ensures { result ≡ marked c o i }
 {
-    let last = risen(c.mode.last, o.raises, i);
-    let gisr = c.events.gisr | o.gisr;
-    let iflg = c.buffers.iflg | o.iflg;
-    let fifo = entered(c, o.queues);
-    let slprq = o.slprq;
-    let places = o.places;
     let mut next = c;
-    next.mode.last = last;
-    next.mode.slprq = slprq;
-    next.places = places;
-    next.events.gisr = gisr;
-    next.buffers.iflg = iflg;
-    next.fifo = fifo;
+    next.mode.last = risen(c.mode.last, o.raises, i);
+    next.mode.slprq = o.slprq;
+    next.places = o.places;
+    next.events.gisr |= o.gisr;
+    next.buffers.iflg |= o.iflg;
+    next.fifo = entered(c, o.queues);
     next
 }

@@ -1,5 +1,6 @@
 // Slots: which buffer is sent in one.
 ghost use Rattle.std.specs.Prelude.{◌≡◌};
+ghost use Rattle.masks.specs.Bits.{number_in};
 ghost use Rattle.masks.specs.Pick.{pick};
 ghost use Rattle.rules.specs.Bus.{sent_from, slot_for};
 ghost use Rattle.rules.specs.Record.{with_mode, with_last};
@@ -15,10 +16,8 @@ fn sent_from(c: Control, i: u8, n: u8) -> Control
     ensures { result ≡ with_mode (sent_from c n) (with_last c.mode i) }
 {
     let mut next = c;
-    let iflg = masks::put(c.buffers.iflg, n, true);
-    let armed = masks::put(c.buffers.armed, n, false);
-    next.buffers.iflg = iflg;
-    next.buffers.armed = armed;
+    next.buffers.iflg = masks::put(c.buffers.iflg, n, true);
+    next.buffers.armed = masks::put(c.buffers.armed, n, false);
     next.mode.last = i;
     next
 }
@@ -28,21 +27,23 @@ fn unsent(c: Control) -> Answer
     ensures { result ≡ pick c.mode.synced NotSent Ignored }
 {
     if c.mode.synced {
-        return Answer::NotSent;
+        Answer::NotSent
+    } else {
+        Answer::Ignored
     }
-    Answer::Ignored
 }
 
-// Slot i of an awake module. Its buffer is n, NONE if there is none. Where nothing is sent there is one way to the return, whatever the
+// Slot i of an awake module. Its buffer is n, if there is one. Where nothing is sent there is one way to the return, whatever the
 // answer: with a return for each, the compiler copied the state twice.
-pub(crate) fn slot_for(c: Control, i: u8, n: u8) -> Ruling
-    ensures { result ≡ ruling_of (slot_for c i n) }
+#[tactic(auto, unfolding(rules::specs::Bus::slot_for, rules::specs::Bus::send_from, masks::specs::Pick::pick))]
+pub(crate) fn slot_for(c: Control, i: u8, n: Option<u8>) -> Ruling
+    ensures { result ≡ ruling_of (slot_for c i (number_in n)) }
 {
-    if c.mode.synced && c.mode.last < i && n < NONE {
-        return Ruling {
+    match n {
+        Some(n) if c.mode.synced && c.mode.last < i && n < NONE => Ruling {
             next: sent_from(c, i, n),
             verdict: Verdict::Send(n),
-        };
+        },
+        _ => ruling(c, unsent(c)),
     }
-    ruling(c, unsent(c))
 }

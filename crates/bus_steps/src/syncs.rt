@@ -17,18 +17,16 @@ fn arming(c: Control, m: u16) -> u16
 }
 
 // A sync: synchronized, a new cycle, its buffers armed, and SLPRQ cancelled.
+#[tactic(auto, unfolding(crate::specs::Code::synced_of))]
 pub(crate) fn synced(c: Control, k: SyncKind, m: u16) -> Control
     ensures { result ≡ synced_of k c m }
 {
     let mut next = c;
-    let f = c.events;
-    let events = sync_events(f, k);
-    let armed = arming(c, m);
-    next.events = events;
+    next.events = sync_events(c.events, k);
     next.mode.slprq = false;
     next.mode.synced = true;
     next.mode.last = 0;
-    next.buffers.armed = armed;
+    next.buffers.armed = arming(c, m);
     next
 }
 
@@ -44,6 +42,7 @@ pub(crate) fn due_kind(c: Control) -> SyncKind
 }
 
 // The alarm timeout clears ALARM.
+#[tactic(auto, unfolding(rules::specs::Bus::timed_out))]
 pub(crate) fn timed_out(c: Control) -> Control
     ensures { result ≡ timed_out c }
 {

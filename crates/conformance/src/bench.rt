@@ -1,7 +1,7 @@
 // The bench. A line of the input is a session's heading (#), a step as the replay text writes it, with spaces for tabs, or a remark
 // (/); or it says how large a slot's room is from now on (room).
-use controller::{Call, Controller, Done};
-use lines::{FrameBytes, Line, Parsed};
+use controller::{Answered, Call, Controller, Done};
+use lines::{FrameBytes, Parsed};
 use pieces::Held;
 use rules::Answer;
 use std::io;
@@ -19,7 +19,7 @@ pub struct Bench {
     held: Held,
 }
 
-// Before a session's first step. A room has six bytes more than a frame can fill.
+// Before a session's first step. A room has six bytes more than a frame can fill. No Default: the controller has none, but `after_reset`.
 fn fresh() -> Session {
     let c = Controller::after_reset();
     Session {
@@ -35,26 +35,23 @@ pub(crate) fn start() -> Bench {
     }
 }
 
-fn hex(rt: &impl Print, v: u8) -> io::Result<()> {
-    print!(rt; "{v:02X}")
-}
-
 fn hexes(rt: &impl Print, bytes: &[u8]) -> io::Result<()> {
     for b in bytes {
-        hex(rt, *b)?;
+        print!(rt; "{b:02X}")?;
     }
     Ok(())
 }
 
 // The text from byte 1 on.
 fn rest(rt: &impl Print, text: &[u8], end: usize) -> io::Result<()> {
-    if 1 <= end && end <= text.len() {
-        rt.write_all(&text[1..end])?;
+    match text.get(1..end) {
+        Some(text) => rt.write_all(text),
+        None => Ok(()),
     }
-    Ok(())
 }
 
-// The row of an answer as the replay text has it, behind the number of its line; sent is a sent frame's bytes.
+// The row of an answer as the replay text has it, behind the number of its line; sent is a sent frame's bytes. Answer and count apart, as
+// `report::row` takes them.
 fn row(rt: &impl Print, answer: Answer, sent: &[u8], irq: u8, looked: u8) -> io::Result<()> {
     let mut text = [0u8; 64];
     let end = report::row(
@@ -71,18 +68,16 @@ fn row(rt: &impl Print, answer: Answer, sent: &[u8], irq: u8, looked: u8) -> io:
 
 // The row of a sent frame, which is the room's first k bytes.
 fn sent(rt: &impl Print, room: &[u8], k: u8, irq: u8, looked: u8) -> io::Result<()> {
-    let n = k as usize;
-    if n <= room.len() {
-        row(rt, Answer::Sent(k), &room[..n], irq, looked)?;
+    match room.get(..k as usize) {
+        Some(bytes) => row(rt, Answer::Sent(k), bytes, irq, looked),
+        None => Ok(()),
     }
-    Ok(())
 }
 
 // The report of a step, the room being as it left it.
 fn print(rt: &impl Print, d: Done, room: &[u8]) -> io::Result<Controller> {
-    let answer = d.answer;
+    let Answered { answer, looked } = d.answered;
     let next = d.next;
-    let looked = d.looked;
     let irq = next.lines();
     match answer {
         Answer::Sent(k) => sent(rt, room, k, irq, looked)?,
@@ -93,15 +88,11 @@ fn print(rt: &impl Print, d: Done, room: &[u8]) -> io::Result<Controller> {
 
 // A frame, its bytes being a value.
 fn framed(c: Controller, good: bool, f: FrameBytes) -> Done {
-    let b = f.bytes;
-    if f.size < 34 {
-        let n = f.size as usize;
-        return c.frame(good, &b[..n]);
-    }
-    c.frame(good, &b)
+    let n = lines::frame_size(f);
+    c.frame(good, &f.bytes[..n])
 }
 
-// The call, by its method.
+// The call, by its method and not by `step`: so each of them is run.
 fn called(c: Controller, call: Call, f: FrameBytes, room: &mut [u8]) -> Done {
     match call {
         Call::Reset => c.reset(),
@@ -132,9 +123,9 @@ fn reported(
     let lent = &mut room[..n];
     let d = called(c, call, f, lent);
     let next = print(rt, d, lent)?;
-    let Call::Slot(_) = call else {
+    if !matches!(call, Call::Slot(_)) {
         return Ok(next);
-    };
+    }
     rt.print("room ")?;
     hexes(rt, lent)?;
     rt.print("\n")?;
@@ -147,105 +138,87 @@ fn tab(b: u8) -> u8 {
 }
 
 fn show(rt: &impl Print, h: Held) -> io::Result<()> {
-    let n = h.len as usize;
-    if n <= 64 {
-        rt.write_all(&h.bytes[..n])?;
+    match h.bytes.get(..h.len as usize) {
+        Some(line) => rt.write_all(line),
+        None => Ok(()),
     }
-    Ok(())
 }
 
-// The value of two digits, as a read's address has it.
+// The value of two digits, as a read's address has it; 0 for other bytes, which the input doesn't have.
 fn value(high: u8, low: u8) -> u8 {
-    let text = [b'R', b'\t', high, low];
-    let p = lines::parse(&text);
-    let line = p.line;
-    let Line::Means(call) = line else {
-        return 0;
-    };
-    let Call::Read(a) = call else {
-        return 0;
-    };
-    a
+    match lines::parse(&[b'R', b'\t', high, low]).line {
+        Some(Call::Read(a)) => a,
+        _ => 0,
+    }
 }
 
 // The line as the replay text has it, read as a step.
 fn parsed(h: Held) -> Parsed {
-    let old = h.bytes;
-    let mut bytes = [0u8; 64];
-    for at in 0..64 {
-        bytes[at] = tab(old[at]);
-    }
     let n = h.len as usize;
     if 64 < n {
         return lines::unread();
+    }
+    let mut bytes = h.bytes;
+    for b in &mut bytes {
+        *b = tab(*b);
     }
     lines::parse(&bytes[..n])
 }
 
 fn step(rt: &impl Print, s: Session, h: Held) -> io::Result<Session> {
     let p = parsed(h);
-    let line = p.line;
-    let frame = p.frame;
-    let c = s.controller;
     show(rt, h)?;
-    let Line::Means(call) = line else {
+    let Some(call) = p.line else {
         rt.print("\tunread\n")?;
         return Ok(s);
     };
-    let next = reported(rt, c, call, frame, s.room)?;
     Ok(Session {
-        controller: next,
+        controller: reported(rt, s.controller, call, p.frame, s.room)?,
         room: s.room,
     })
 }
 
 // A line of the input.
 fn line(rt: &impl Print, s: Session, h: Held) -> io::Result<Session> {
-    let bytes = h.bytes;
     if h.len == 0 {
         return Ok(s);
     }
-    let mut next = s;
-    match bytes[0] {
-        b'#' => {
+    match h.bytes {
+        [b'#', ..] => {
             show(rt, h)?;
             rt.print("\n")?;
             Ok(fresh())
         }
-        b'/' => Ok(s),
-        b'r' => {
-            let room = value(bytes[5], bytes[6]);
-            next.room = room;
-            Ok(next)
-        }
+        [b'/', ..] => Ok(s),
+        // room, a space and two digits
+        [b'r', _, _, _, _, high, low, ..] => Ok(Session {
+            controller: s.controller,
+            room: value(high, low),
+        }),
         _ => step(rt, s, h),
     }
 }
 
-// The line with one more byte, as far as it has room.
+// The line with one more byte, as far as it has room. Not `pieces::gather`: a longer line is cut here, and not unread.
 fn longer(h: Held, b: u8) -> Held {
-    let mut bytes = h.bytes;
-    let len = h.len;
-    if 64 <= len {
-        return h;
+    let mut next = h;
+    if h.len < 64 {
+        next.bytes[h.len as usize] = b;
+        next.len += 1;
     }
-    bytes[len as usize] = b;
-    let more = len + 1;
-    Held { bytes, len: more }
+    next
 }
 
 fn byte(rt: &impl Print, t: Bench, b: u8) -> io::Result<Bench> {
-    let s = t.session;
-    let h = t.held;
     if b == b'\n' {
         return Ok(Bench {
-            session: line(rt, s, h)?,
+            session: line(rt, t.session, t.held)?,
             held: pieces::none(),
         });
     }
     Ok(Bench {
-        session: s,
-        held: longer(h, b),
+        session: t.session,
+        held: longer(t.held, b),
     })
 }
 

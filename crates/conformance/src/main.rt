@@ -10,6 +10,7 @@ fn main(rt: HostRuntime) -> io::Result<()> {
     let mut piece = [0u8; 4096];
     let mut b = bench::start();
     let mut input = rt.stdin();
+    // no proof can know that input ends: the count of turns does
     for _ in 0..u64::MAX {
         let n = input.read(&mut piece)?;
         if n == 0 {

@@ -5,29 +5,33 @@
 ghost use Rattle.std.specs.Prelude.{◌≡◌, get_or};
 ghost use Rattle.contents.specs.Bytes.{cut, with_ident, with_length, with_data};
 
-// Identifier, length, data 0 to 11: fourteen bytes that travel as one array, copied whole.
+// Identifier, length, data 0 to 11: fourteen bytes that travel as one array, copied whole. Between store, window and send it is that array
+// and no struct with methods: document 01 names this form.
 #[repr(C)]
 #[derive(Clone, Copy)]
 pub struct Contents {
     pub bytes: [u8; 14],
 }
 
+// A buffer's contents after reset.
+pub const BLANK: Contents = Contents { bytes: [0; 14] };
+
 // The smaller of 12 and a length byte's low four bits.
 pub fn cut(len: u8) -> u8
     ensures { result ≡ cut len }
 {
-    let low = len % 16;
-    if low < 12 { low } else { 12 }
+    (len % 16).min(12)
 }
 
 // The byte at a place, identifier 0, length 1, data 2 to 13; 0 at a place from 14 on.
 pub fn byte_at(b: [u8; 14], place: u8) -> u8
     ensures { result ≡ get_or b place 0 }
 {
-    if place < 14 { b[place as usize] } else { 0 }
+    b.get(place as usize).copied().unwrap_or(0)
 }
 
 // The contents with another identifier.
+#[tactic(auto, using(crate::proofs::Laws::ident_set), unfolding(crate::specs::Bytes::with_ident))]
 pub fn with_ident(old: [u8; 14], v: u8) -> [u8; 14]
     ensures { result ≡ (with_ident (record { bytes = old }) v).bytes }
 {
@@ -37,6 +41,7 @@ pub fn with_ident(old: [u8; 14], v: u8) -> [u8; 14]
 }
 
 // The contents with another length byte, kept as it is given.
+#[tactic(auto, using(crate::proofs::Laws::length_byte_set), unfolding(crate::specs::Bytes::with_length))]
 pub fn with_length(old: [u8; 14], v: u8) -> [u8; 14]
     ensures { result ≡ (with_length (record { bytes = old }) v).bytes }
 {
@@ -46,6 +51,7 @@ pub fn with_length(old: [u8; 14], v: u8) -> [u8; 14]
 }
 
 // The contents with another data byte j; the same contents where j is from 12 on.
+#[tactic(auto, unfolding(crate::specs::Bytes::with_data))]
 pub fn with_data(old: [u8; 14], j: u8, v: u8) -> [u8; 14]
     ensures { result ≡ (with_data (record { bytes = old }) j v).bytes }
 {

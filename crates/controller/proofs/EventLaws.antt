@@ -6,10 +6,10 @@ use mathlib.Core.Path.{◌≡◌, refl, sym, ap, ◌∙◌}
 use native.Mathlib.Omega.{arith}
 use borrow.Author.Tests.{lt-ltb, le-ltb, ltb-true, ltb-false, eqb-true, not-false}
 use lib.Dec.{ltb}
-use lib.ListN.{get_or, length, replicate, get_or-eq_default}
+use lib.ListN.{get_or, length, get_or-eq_default}
 use Rattle.masks.specs.PickLaws.{pick_true, pick-false, by-test}
 use Rattle.contents.specs.declared.Contents.{Contents}
-use Rattle.contents.specs.Bytes.{no_contents, cut, bytes_from, frame_of, fill_room}
+use Rattle.contents.specs.Bytes.{blank, no_contents, cut, bytes_from, frame_of, fill_room}
 use Rattle.contents.specs.Code.{well_sized}
 use Rattle.sending.specs.CodeRoom.{room-filled}
 use Rattle.rules.specs.Refusals.{refuses11}
@@ -25,7 +25,7 @@ use Rattle.controller.specs.declared.Controller.{Controller}
 use Rattle.controller.specs.Carry.{heads, row_at, move_all, hold_all, carry}
 use Rattle.controller.specs.Session.{step_of}
 use Rattle.controller.specs.Calls.{done_of}
-use Rattle.controller.specs.Code.{answered, unlooked, told_of, changed, slot_ruling, row_index, bytes_at, row_bytes, slot_change, room_by, room_sent}
+use Rattle.controller.specs.Code.{answered, unlooked, told_of, changed, slot_ruling, row_index, contents_at, contents_in, slot_change, room_by, room_sent}
 use Rattle.controller.specs.CodeLaws.{row-own, unlooked-told, says-only, by-plan, slot_plan, slot-sized, slot-refused, slot-room}
 
 -- ---- a frame's size
@@ -39,42 +39,39 @@ pub sized-long : (f : List ℕ) → refuses11 f ≡ false → 2 ≤ length f
 unfolding refuses11
 sized-long f e = let h = eqb-true (length f) (2 + cut (get_or f 1 0)) (not-false _ e) in omega arith
 
--- ---- the bytes of buffer n, whose row is given
+-- ---- the contents of buffer n, whose row is given
 
 module _ (n : ℕ) (row : Contents) where
-  pub bytes-in : n < 16 → row.bytes ≡ bytes_at n row
-  unfolding bytes_at
-  bytes-in h = sym (pick_true (ltb n 16) _ _ (lt-ltb n 16 h))
+  contents-in : n < 16 → contents_at n row ≡ row
+  unfolding contents_at
+  contents-in h = pick_true (ltb n 16) _ _ (lt-ltb n 16 h)
 
-  pub bytes-out : 16 ≤ n → replicate 14 0 ≡ bytes_at n row
-  unfolding bytes_at
-  bytes-out h = sym (pick-false (ltb n 16) _ _ (le-ltb n 16 h))
+  contents-out : 16 ≤ n → contents_at n row ≡ blank
+  unfolding contents_at
+  contents-out h = pick-false (ltb n 16) _ _ (le-ltb n 16 h)
 
-pub row-bytes : (rows : List Contents) (n : ℕ) (row : Contents) → row ≡ row_at rows (n % 16) → bytes_at n row ≡ row_bytes rows n
-row-bytes rows n row e =
-    by-test (ltb n 16) (λ t. ap (bytes_at n) (row-own rows n row (ltb-true n 16 t) e))
-    (λ t. let past = ltb-false n 16 t in sym (bytes-out n row past) ∙ bytes-out n (row_at rows n) past)
+pub row-contents : (rows : List Contents) (n : ℕ) (row : Contents) → row ≡ row_at rows (n % 16) → contents_at n row ≡ contents_in rows n
+row-contents rows n row e =
+    by-test (ltb n 16) (λ t. ap (contents_at n) (row-own rows n row (ltb-true n 16 t) e))
+    (λ t. let past = ltb-false n 16 t in contents-out n row past ∙ sym (contents-out n (row_at rows n) past))
 
-no-frame : frame_of (record { bytes = replicate 14 0 }) ≡ frame_of no_contents
+no-frame : frame_of blank ≡ frame_of no_contents
 unfolding frame_of bytes_from
 no-frame = refl
 
 -- the frame of buffer n, also past the last
-pub frame_row : (rows : List Contents) (n : ℕ) → length rows ≡ 16 → frame_of (record { bytes = row_bytes rows n }) ≡ frame_of (row_at rows n)
-frame_row rows n l = by-test (ltb n 16) (λ t. same (bytes-in n (row_at rows n) (ltb-true n 16 t))) (λ t. past (ltb-false n 16 t))
-  where
-    same : {b : List ℕ} → b ≡ row_bytes rows n → frame_of (record { bytes = row_bytes rows n }) ≡ frame_of (record { bytes = b })
-    same e = ap (λ (b : List ℕ). frame_of (record { bytes = b })) (sym e)
-
-    past : 16 ≤ n → frame_of (record { bytes = row_bytes rows n }) ≡ frame_of (row_at rows n)
-    past h = same (bytes-out n (row_at rows n) h) ∙ no-frame ∙ ap frame_of (sym (get_or-eq_default rows no_contents (omega arith)))
+pub frame_row : (rows : List Contents) (n : ℕ) → length rows ≡ 16 → frame_of (contents_in rows n) ≡ frame_of (row_at rows n)
+frame_row rows n l =
+    by-test (ltb n 16) (λ t. ap frame_of (contents-in n (row_at rows n) (ltb-true n 16 t)))
+    (λ t. let past = ltb-false n 16 t in
+    ap frame_of (contents-out n (row_at rows n) past) ∙ no-frame ∙ ap frame_of (sym (get_or-eq_default rows no_contents (omega arith))))
 
 -- ---- the room that the code leaves is the one of the rules
 
 sent-room : (rows : List Contents) (room : List ℕ) (v : Verdict) → length rows ≡ 16 → 14 ≤ length room → room_sent rows room v ≡ room_by rows room v
 sent-room rows room (Say a) l h = refl
-sent-room rows room (Store n k a) l h = refl
-sent-room rows room (Send n) l h = room-filled (record { bytes = row_bytes rows n }) room h ∙ ap (λ (f : List ℕ). fill_room f room) (frame_row rows n l)
+sent-room rows room (Store t a) l h = refl
+sent-room rows room (Send n) l h = room-filled (contents_in rows n) room h ∙ ap (λ (f : List ℕ). fill_room f room) (frame_row rows n l)
 
 pub slot-sends : (c : Controller) → length c.rows ≡ 16 → (i : ℕ) (room : List ℕ) → room_sent c.rows room (slot_ruling c i (length room)).verdict ≡ (step_of c (slot i room)).room
 slot-sends c sixteen i room = by-test (ltb (length room) 14) small large ∙ slot-room c i room
@@ -100,7 +97,7 @@ module _ (c : Controller) (sixteen : length c.rows ≡ 16) (i : ℕ) (room : Lis
   slot-answers row p (sends d n) e =
       says-only c d _ ∙ unlooked-told _ (Sent _) refl
       ∙ ap (λ (x : List ℕ). answered (record { control = d; rows = c.rows; held = c.held }) (Sent (length x)))
-      (ap (λ (x : List ℕ). frame_of (record { bytes = x })) (row-bytes c.rows n row e) ∙ frame_row c.rows n sixteen)
+      (ap frame_of (row-contents c.rows n row e) ∙ frame_row c.rows n sixteen)
 
   -- r being the slot's ruling
   pub slot-changes : (r : Ruling) → r ≡ slot_ruling c i (length room) → (row : Contents) → row ≡ row_at c.rows (row_index r.verdict) →

@@ -5,7 +5,6 @@ pub mod NoOldBytes
 -- nothing to believe: laws
 pub mod RegisterLaws
 pub mod EventLaws
-pub mod LookedLaws
 pub mod AccessLaws
 pub mod BufferBytesLaws
 pub mod CodeLaws

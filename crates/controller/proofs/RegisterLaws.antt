@@ -1,16 +1,12 @@
 -- Laws of the register calls.
 use Prim.Native.Nat.{ℕ, ◌+◌, ◌-◌, ◌%◌, ◌≤◌, ◌<◌}
 use mathlib.Core.Path.{◌≡◌, refl, sym, ap, ◌∙◌}
-use mathlib.Core.List.{List, [], ◌∷◌}
-use mathlib.Core.Bool.{Bool, true, false, not, false≢true}
+use mathlib.Core.Bool.{Bool, true, false, false≢true}
 use native.Mathlib.Omega.{arith}
 use borrow.Author.Tests.{lt-ltb, ltb-true, ltb-false, eqb-true}
-use lib.Dec.{T, eqb, ltb}
+use lib.Dec.{eqb, ltb}
 use lib.ListN.{length}
-use types.Run.{OneOf, miss}
-use mir.Val.{has_key}
 use denote.Struct.Declared.{row}
-use denote.Enum.Declared.{tag_of}
 use Rattle.masks.specs.PickLaws.{pick_true, pick-false, pick-keeps, by-test}
 use Rattle.masks.specs.Pick.{pick}
 use Rattle.masks.specs.Bits.{some_of}
@@ -19,105 +15,21 @@ use Rattle.contents.specs.declared.Contents.{Contents}
 use Rattle.rules.specs.declared.Answer.TheVariants.{Ok, Refused}
 use Rattle.rules.specs.declared.Places.{Places}
 use Rattle.rules.specs.declared.Control.{Control}
-use Rattle.rules.specs.contracts.Register.{the_type as the-register}
 use Rattle.rules.specs.declared.Register.{Register}
 use Rattle.rules.specs.Registers.{Region, send_place, receive_place, fifo_place, control_of, elsewhere, region_of, low_map, register_at}
-use Rattle.rules.specs.declared.Register.TheVariants.{Mcr, Fsizr, Tcr1, Tcr2, Tcr3, Risr, Gisr, Rier, Gier, Rivec, Tivec, Fidac, Fidmr, Mvr, Pctlbf, Buflock, Fidrj, Fidrmr, TransmitWindow, ReceiveWindow, FifoWindow, Bufctl, Reserved}
+use Rattle.rules.specs.declared.Register.TheVariants.{Bufctl}
 use Rattle.rules.specs.Steps.{write}
-use Rattle.rules.specs.Reads.{value_of}
 use Rattle.rules.specs.Writes.{written}
 use Rattle.rules.specs.Refusals.{refuses1, first_of, read_refusal, write_refusal}
 use Rattle.controller.specs.declared.Controller.{Controller}
-use Rattle.writes.specs.Code.{control-at}
+use Rattle.writes.specs.Code.{control-at, low-written}
+use Rattle.writes.specs.CodeDelivery.{delivery-whole}
 use Rattle.waiting.specs.Code.{newest_of}
 use Rattle.controller.specs.Carry.{row_at}
 use Rattle.controller.specs.Session.{step_of}
 use Rattle.controller.specs.Calls.{done_of}
-use Rattle.controller.specs.Code.{unlooked, saying, changed, holder_in, holder_of, window_row, value_in, register_value, read_answer, reached_in, change_in, register_change, low_change_in, low_change, control_change, write_change}
+use Rattle.controller.specs.Code.{unlooked, saying, changed, holder_in, holder_of, window_row, read_answer, reached_in, change_in, register_change, low_change_in, low_change, control_change, write_change}
 use Rattle.controller.specs.AccessLaws.{write-changes}
-
--- ---- the registers that have no arm of their own, by their places in the declaration
-
-abbrev all_but_windows : List ℕ
-all_but_windows = 0 ∷ 1 ∷ 2 ∷ 3 ∷ 4 ∷ 5 ∷ 6 ∷ 7 ∷ 8 ∷ 9 ∷ 10 ∷ 11 ∷ 12 ∷ 13 ∷ 14 ∷ 15 ∷ 16 ∷ 17 ∷ 21 ∷ 22 ∷ []
-
-abbrev all_but_writable : List ℕ
-all_but_writable = 0 ∷ 1 ∷ 2 ∷ 3 ∷ 4 ∷ 5 ∷ 6 ∷ 7 ∷ 8 ∷ 9 ∷ 10 ∷ 11 ∷ 12 ∷ 13 ∷ 14 ∷ 15 ∷ 16 ∷ 17 ∷ 20 ∷ 21 ∷ 22 ∷ []
-
--- a place of a window is declared where its window is
-tagged : Region → ℕ → Type 0
-tagged (send_place p) t = t ≡ 18
-tagged (receive_place p) t = t ≡ 19
-tagged (fifo_place p) t = t ≡ 20
-tagged (control_of n) t = t ≡ 21
-tagged elsewhere t = Unit
-
-tag-region : (r : Register) → tagged (region_of r) (tag_of the-register r)
-unfolding tagged
-tag-region Mcr = tt
-tag-region Fsizr = tt
-tag-region Tcr1 = tt
-tag-region Tcr2 = tt
-tag-region Tcr3 = tt
-tag-region Risr = tt
-tag-region Gisr = tt
-tag-region Rier = tt
-tag-region Gier = tt
-tag-region Rivec = tt
-tag-region Tivec = tt
-tag-region Fidac = tt
-tag-region Fidmr = tt
-tag-region Mvr = tt
-tag-region Pctlbf = tt
-tag-region Buflock = tt
-tag-region Fidrj = tt
-tag-region Fidrmr = tt
-tag-region (TransmitWindow p) = refl
-tag-region (ReceiveWindow p) = refl
-tag-region (FifoWindow p) = refl
-tag-region (Bufctl n) = refl
-tag-region Reserved = tt
-
--- it is not among what is left of the variants
-left_out : {A : Type 0} (ks : List ℕ) (t k : ℕ) → T (not (has_key ks k)) → t ≡ k → OneOf ks t → A
-left_out ks t k m e h = absurd (miss ks k m (rw (sym e) h))
-
-region-holder : (c : Control) (g : Region) (t : ℕ) → tagged g t → OneOf all_but_windows t → 16 ≡ holder_in c g
-unfolding tagged
-region-holder c (send_place p) t e h = left_out all_but_windows t 18 tt e h
-region-holder c (receive_place p) t e h = left_out all_but_windows t 19 tt e h
-region-holder c (fifo_place p) t e h = left_out all_but_windows t 20 tt e h
-region-holder c (control_of n) t e h = refl
-region-holder c elsewhere t e h = refl
-
-pub no-holder : (c : Control) (r : Register) → OneOf all_but_windows (tag_of the-register r) → 16 ≡ holder_of c r
-unfolding holder_of
-no-holder c r h = region-holder c (region_of r) _ (tag-region r) h
-
-module _ (c : Control) (row : Contents) where
-  region-value : (g : Region) (v t : ℕ) → tagged g t → OneOf all_but_windows t → v ≡ value_in c row g v
-  unfolding tagged
-  region-value (send_place p) v t e h = left_out all_but_windows t 18 tt e h
-  region-value (receive_place p) v t e h = left_out all_but_windows t 19 tt e h
-  region-value (fifo_place p) v t e h = left_out all_but_windows t 20 tt e h
-  region-value (control_of n) v t e h = refl
-  region-value elsewhere v t e h = refl
-
-  pub other-value : (r : Register) → OneOf all_but_windows (tag_of the-register r) → value_of c r ≡ register_value c r row
-  unfolding register_value
-  other-value r h = region-value (region_of r) (value_of c r) _ (tag-region r) h
-
-  region-change : (d : Control) (g : Region) (v t : ℕ) → tagged g t → OneOf all_but_writable t → saying d (unlooked Ok) ≡ low_change_in c d row g v
-  unfolding tagged
-  region-change d (send_place p) v t e h = left_out all_but_writable t 18 tt e h
-  region-change d (receive_place p) v t e h = left_out all_but_writable t 19 tt e h
-  region-change d (fifo_place p) v t e h = refl
-  region-change d (control_of n) v t e h = refl
-  region-change d elsewhere v t e h = refl
-
-  pub other-change : (d : Control) (r : Register) (v : ℕ) → OneOf all_but_writable (tag_of the-register r) → saying d (unlooked Ok) ≡ low_change c d r v row
-  unfolding low_change
-  other-change d r v h = region-change d (region_of r) v _ (tag-region r) h
 
 -- ---- the control registers
 
@@ -249,3 +161,14 @@ newest-below p n =
   where
     Below : ℕ → Type 0
     Below k = k < 2
+
+-- what the ways ask for
+pub ruleset reads_far = (far-read)
+
+pub ruleset low_ways = (low-written, plain-register)
+
+pub ruleset window_ways = (low-register, window-kept)
+
+pub ruleset write_ways = (low-written, low-register, control-written)
+
+pub ruleset control_ways = (delivery-whole)

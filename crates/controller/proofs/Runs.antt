@@ -19,8 +19,8 @@ pub runs-reports : (c : Controller) (es : List Step) (rs : List Report) → Runs
 runs-reports c es rs ends = run_none c
 runs-reports c es rs (calls {c = b} {e = e} {es = later} {rs = more} d room lines p q l runs) =
     ap₂ (λ (x : Report) (xs : List Report). x ∷ xs)
-    (ap₂ (λ (x : List ℕ) (y : ℕ). shown d.answer x y d.looked) q l
-    ∙ ap (λ (x : Done). shown x.answer (step_of b e).room (lines_of x.next.control) x.looked) p ∙ report-shown b e)
+    (ap₂ (λ (x : List ℕ) (y : ℕ). shown d.answered.answer x y d.answered.looked) q l
+    ∙ ap (λ (x : Done). shown x.answered.answer (step_of b e).room (lines_of x.next.control) x.answered.looked) p ∙ report-shown b e)
     (runs-reports d.next later more runs ∙ ap (λ (x : Done). run_of x.next later) p)
     ∙ sym (run-cons b e later)
 

@@ -204,7 +204,7 @@ module _ (c : Controller) (sixteen : length c.rows ≡ 16) (a v : ℕ) where
       (λ t. simp (t, pick-false)
       (by-test (is_awaited c.control.places n)
       (λ u. simp (u, pick_true)
-      (places_row c d (unlooked Ok) n image sixteen
+      (places_row c d (unlooked Ok) n image
       ∙ ap₂ kept (ap (set c.rows n) e ∙ sym (deliveries-rows c a v n ∙ pick_true _ _ _ u)) (sym (deliveries-held c a v n))))
       (λ u. simp (u, pick-false) (says-only c d (unlooked Ok) ∙ ap₂ kept (sym (deliveries-rows c a v n ∙ pick-false _ _ _ u)) (sym (deliveries-held c a v n))))))
     where

@@ -38,7 +38,7 @@ use Rattle.controller.specs.Session.{step_of}
 use Rattle.controller.specs.Calls.{done_of}
 use Rattle.controller.specs.BufferBytes.{byte_at, is_place_of, is_release_of, shows, delivers, may_change}
 use Rattle.controller.specs.Code.{changed, event_change, write_place}
-use Rattle.controller.specs.CodeLaws.{step-plain, placed-none}
+use Rattle.controller.specs.CodeLaws.{step-plain}
 use Rattle.controller.specs.AccessLaws.{window-moves, deliveries-rows, write-accepted, write-refused}
 use Rattle.controller.specs.ViewLaws.{head_at_lem}
 
@@ -180,9 +180,7 @@ slot-rows e rows held p (sends d n) = refl
 module _ (c : Controller) (n k : ℕ) where
   -- a step that only answers
   pub event-keeps : (e : Step) → changed c (event_change c e) ≡ done_of (step_of c e) → byte_at (step_of c e).next n k ≡ byte_at c n k
-  event-keeps e same =
-      ap (λ (d : Done). byte_at d.next n k) (sym same)
-      ∙ ap (λ (rows : List Contents). get_or (row_at rows n).bytes k 0) (placed-none c.rows 16 _ (omega arith))
+  event-keeps e same = ap (λ (d : Done). byte_at d.next n k) (sym same)
 
 -- ---- a read
 

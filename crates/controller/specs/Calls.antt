@@ -12,21 +12,17 @@ use Rattle.controller.specs.Carry.{Outcome}
 use Rattle.controller.specs.Session.{step_of, Report}
 use Rattle.rules.specs.Answers.{word_of, given_of, number_in, Detail, detail_of}
 
+-- what is answered: what the step on a lent record returns
+abbrev pub answered_of : Outcome → Answered
+answered_of o = record { answer = o.answer; looked = o.looked }
+
 -- what a method returns
 abbrev pub done_of : Outcome → Done
-done_of o = record { next = o.next; answer = o.answer; looked = o.looked }
-
--- what is answered, out of that
-abbrev pub answer_in : Done → Answered
-answer_in d = record { answer = d.answer; looked = d.looked }
+done_of o = record { next = o.next; answered = answered_of o }
 
 -- "ok"
 abbrev pub accepted : Answered
 accepted = record { answer = Ok; looked = 0 }
-
--- what the step on a lent record returns
-abbrev pub answered_of : Outcome → Answered
-answered_of o = answer_in (done_of o)
 
 -- ---- a call as a value, with the frame's bytes and the room beside it
 

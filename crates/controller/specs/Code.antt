@@ -1,14 +1,16 @@
 -- What the controller's functions return, in the terms of the code: rulings, changes and answers, and what they do to the record.
-use Rattle.std.specs.Prelude.{ℕ, ◌+◌, ◌-◌, ◌%◌, List, get_or, set, length, replicate, eqb, ltb}
+use Rattle.std.specs.Prelude.{Option, Some, None, ℕ, ◌+◌, ◌-◌, ◌%◌, List, get_or, set, length, replicate, eqb, ltb}
 use Rattle.masks.specs.Pick.{pick}
 use Rattle.contents.specs.declared.Contents.{Contents}
-use Rattle.contents.specs.Bytes.{with_ident, with_length, with_data, image_of, frame_of, fill_room}
+use Rattle.contents.specs.Bytes.{blank, with_ident, with_length, with_data, image_of, frame_of, fill_room}
 use Rattle.sending.specs.CodeRoom.{room_after}
 use Rattle.rules.specs.declared.Answer.{Answer}
 use Rattle.rules.specs.declared.Answer.TheVariants.{Ok, Value, Sent, Refused}
 use Rattle.rules.specs.declared.Register.{Register}
 use Rattle.rules.specs.declared.Register.TheVariants.{Bufctl}
 use Rattle.rules.specs.Registers.{Region, send_place, receive_place, fifo_place, control_of, elsewhere, region_of, register_at}
+use Rattle.rules.specs.declared.Target.{Target}
+use Rattle.rules.specs.declared.Target.TheVariants.{Buffer, Place}
 use Rattle.rules.specs.declared.Verdict.{Verdict}
 use Rattle.rules.specs.declared.Verdict.TheVariants.{Say, Store, Send}
 use Rattle.rules.specs.declared.Ruling.{Ruling}
@@ -26,12 +28,9 @@ use Rattle.controller.specs.declared.Controller.{Controller}
 use Rattle.rules.specs.LookedLaws.{looked_by}
 use Rattle.controller.specs.declared.Answered.{Answered}
 use Rattle.controller.specs.declared.Done.{Done}
+use Rattle.controller.specs.declared.Stored.{Stored}
 use Rattle.controller.specs.declared.Change.{Change}
 use Rattle.controller.specs.Carry.{heads, row_at, Outcome}
-
--- the record c after a step, with an answer, which tells the count
-abbrev pub answered : Controller → Answer → Done
-answered c a = record { next = c; answer = a; looked = looked_by c.control a }
 
 -- an answer with its count, from the control state after it
 abbrev pub counted_by : Control → Answer → Answered
@@ -41,9 +40,13 @@ counted_by d a = record { answer = a; looked = looked_by d a }
 abbrev pub unlooked : Answer → Answered
 unlooked a = record { answer = a; looked = 0 }
 
--- the record c unchanged, with such an answer
+-- the record c, with an answer
 abbrev pub staying : Controller → Answered → Done
-staying c x = record { next = c; answer = x.answer; looked = x.looked }
+staying c x = record { next = c; answered = x }
+
+-- the record c after a step, with an answer, which tells the count
+abbrev pub answered : Controller → Answer → Done
+answered c a = staying c (counted_by c.control a)
 
 -- an outcome by its record and its answer
 abbrev pub told_of : Outcome → Done
@@ -51,42 +54,46 @@ told_of o = answered o.next o.answer
 
 -- ---- a change
 
--- the control state d alone, with the answer x: no buffer and no place, and zeros for their bytes
+-- the control state d alone, with the answer x
 abbrev pub saying : Control → Answered → Change
-saying d x = record { control = d; buffer = 16; place = 2; bytes = replicate 14 0; answered = x }
+saying d x = record { control = d; stored = None; answered = x }
 
--- the control state d and the bytes b of buffer n, or of waiting place k, with the answer x
-abbrev pub storing : Control → ℕ → ℕ → List ℕ → Answered → Change
-storing d n k b x = record { control = d; buffer = n; place = k; bytes = b; answered = x }
+-- the control state d, and b in a buffer or a waiting place, with the answer x
+abbrev pub storing : Control → Target → Contents → Answered → Change
+storing d t b x = record { control = d; stored = Some (record { to = t; contents = b }); answered = x }
 
--- those of buffer n alone
-abbrev pub placing : Control → ℕ → List ℕ → Answered → Change
-placing d n b x = storing d n 2 b x
+-- in buffer n
+abbrev pub placing : Control → ℕ → Contents → Answered → Change
+placing d n b x = storing d (Buffer n) b x
 
 -- the same for any n: from 16 on there is no buffer
-abbrev pub putting : Control → ℕ → List ℕ → Answered → Change
+abbrev pub putting : Control → ℕ → Contents → Answered → Change
 putting d n b x = pick (ltb n 16) (placing d n b x) (saying d x)
 
--- the buffers' bytes after it: one buffer's below 16, else as they were
-unfoldable pub placed : List Contents → ℕ → List ℕ → List Contents
-placed rows n bytes = pick (ltb n 16) (set rows n (record { bytes = bytes })) rows
+-- the buffers' bytes with b stored
+abbrev pub row_with : List Contents → Target → Contents → List Contents
+row_with rows (Buffer n) b = set rows n b
+row_with rows (Place k) b = rows
 
--- the places' bytes after it: where no buffer's bytes change, those of place k, 0 or 1, else as they were
-unfoldable pub held_by : List Contents → ℕ → ℕ → List ℕ → List Contents
-held_by held n k bytes =
-    pick (ltb n 16) held (pick (ltb k 2) (set held k (record { bytes = bytes })) held)
+-- the places' bytes with b stored
+abbrev pub held_with : List Contents → Target → Contents → List Contents
+held_with held (Buffer n) b = held
+held_with held (Place k) b = set held k b
+
+-- the buffers' bytes after a change, and the places': past the last of them there is none, and nothing is stored
+abbrev pub placed : List Contents → Option Stored → List Contents
+placed rows None = rows
+placed rows (Some s) = row_with rows s.to s.contents
+
+abbrev pub held_by : List Contents → Option Stored → List Contents
+held_by held None = held
+held_by held (Some s) = held_with held s.to s.contents
 
 abbrev pub changed : Controller → Change → Done
 changed c x =
     record {
-      next =
-          record {
-            control = x.control;
-            rows = placed c.rows x.buffer x.bytes;
-            held = held_by c.held x.buffer x.place x.bytes;
-          };
-      answer = x.answered.answer;
-      looked = x.answered.looked;
+      next = record { control = x.control; rows = placed c.rows x.stored; held = held_by c.held x.stored };
+      answered = x.answered;
     }
 
 -- ---- rulings of the bus, and the changes of the events that only answer
@@ -107,7 +114,7 @@ kept_from c d = record { mode = d.mode; config = c.config; events = d.events; fi
 -- the answer of a verdict that only answers
 abbrev pub said_by : Verdict → Answer
 said_by (Say a) = a
-said_by (Store n k a) = a
+said_by (Store t a) = a
 said_by (Send n) = Ok
 
 -- a ruling that only answers, from the control state c
@@ -120,33 +127,34 @@ event_change c e = said_change c.control (ruling_for c e)
 
 -- ---- a frame's ruling as a change, the frame being f: it asks for no buffer's row, and it never sends
 
-abbrev pub frame_change_by : Control → List ℕ → Answered → Verdict → Change
-frame_change_by d f x (Say a) = saying d x
-frame_change_by d f x (Store n k a) = storing d n k (image_of f).bytes x
-frame_change_by d f x (Send n) = saying d x
+abbrev pub stored_by : List ℕ → Verdict → Option Stored
+stored_by f (Say a) = None
+stored_by f (Store t a) = Some (record { to = t; contents = image_of f })
+stored_by f (Send n) = None
 
 unfoldable pub frame_change : Ruling → List ℕ → Change
-frame_change r f = frame_change_by r.next f (counted_by r.next (said_by r.verdict)) r.verdict
+frame_change r f =
+    record { control = r.next; stored = stored_by f r.verdict; answered = counted_by r.next (said_by r.verdict) }
 
 -- ---- a slot's ruling as a change, from the row of its buffer: no frame is stored or waits
 
 -- index of the row of the buffer that is sent; any row where none is
 abbrev pub row_index : Verdict → ℕ
 row_index (Say a) = 0
-row_index (Store n k a) = 0
+row_index (Store t a) = 0
 row_index (Send n) = n % 16
 
--- the fourteen bytes of buffer n, zeros past the last
-unfoldable pub bytes_at : ℕ → Contents → List ℕ
-bytes_at n row = pick (ltb n 16) row.bytes (replicate 14 0)
+-- the contents of buffer n, whose row is given; zeros past the last
+unfoldable pub contents_at : ℕ → Contents → Contents
+contents_at n row = pick (ltb n 16) row blank
 
-abbrev pub row_bytes : List Contents → ℕ → List ℕ
-row_bytes rows n = bytes_at n (row_at rows n)
+abbrev pub contents_in : List Contents → ℕ → Contents
+contents_in rows n = contents_at n (row_at rows n)
 
 abbrev pub slot_answer : Contents → Verdict → Answer
 slot_answer row (Say a) = a
-slot_answer row (Store n k a) = a
-slot_answer row (Send n) = Sent (length (frame_of (record { bytes = bytes_at n row })))
+slot_answer row (Store t a) = a
+slot_answer row (Send n) = Sent (length (frame_of (contents_at n row)))
 
 unfoldable pub slot_change : Ruling → Contents → Change
 slot_change r row = saying r.next (unlooked (slot_answer row r.verdict))
@@ -154,14 +162,14 @@ slot_change r row = saying r.next (unlooked (slot_answer row r.verdict))
 -- the room afterwards
 abbrev pub room_by : List Contents → List ℕ → Verdict → List ℕ
 room_by rows room (Say a) = room
-room_by rows room (Store n k a) = room
+room_by rows room (Store t a) = room
 room_by rows room (Send n) = fill_room (frame_of (row_at rows n)) room
 
 -- the same for a room of any size: one of less than 14 bytes stays as it is
 abbrev pub room_sent : List Contents → List ℕ → Verdict → List ℕ
 room_sent rows room (Say a) = room
-room_sent rows room (Store n k a) = room
-room_sent rows room (Send n) = room_after (record { bytes = row_bytes rows n }) room
+room_sent rows room (Store t a) = room
+room_sent rows room (Send n) = room_after (contents_in rows n) room
 
 -- ---- registers
 
@@ -207,7 +215,7 @@ write_place b p v = pick (eqb p 0) (with_ident b v) (pick (eqb p 1) (with_length
 
 -- the window of buffer n, 16 or more for none, with place p written; d is the control state after it
 abbrev pub window_change : Control → ℕ → ℕ → ℕ → Contents → Change
-window_change d n p v row = putting d n (write_place row p v).bytes (unlooked Ok)
+window_change d n p v row = putting d n (write_place row p v) (unlooked Ok)
 
 -- the row that a register reaches: that of its window's holder, or for a control register the newest frame that waits for its buffer;
 -- any row where there is none
@@ -220,7 +228,7 @@ reached_in c elsewhere = row_at c.rows 0
 
 -- the control state d, and in buffer n the frame that waited for it, if it is released by v
 abbrev pub release_change : Control → Control → ℕ → ℕ → Contents → Change
-release_change c d n v image = pick (releases c n v) (placing d n image.bytes (unlooked Ok)) (saying d (unlooked Ok))
+release_change c d n v image = pick (releases c n v) (placing d n image (unlooked Ok)) (saying d (unlooked Ok))
 
 abbrev pub change_in : Control → Control → Contents → Region → ℕ → Change
 change_in c d row (send_place p) v = window_change d c.transmit.holder p v row

@@ -1,8 +1,8 @@
 -- The steps of the bus in the terms of the code: what a change does to the record, and that its changes (a frame's in
 -- proofs/CodeLaws.antt) and rulings do what the rules say.
-use Rattle.std.specs.Prelude.{◌≡◌, ℕ, ◌%◌, ◌≤◌, ◌<◌, Bool, true, false, List, get_or, set, length, replicate, ltb}
+use Rattle.std.specs.Prelude.{◌≡◌, ℕ, ◌%◌, ◌≤◌, ◌<◌, Bool, true, false, List, get_or, set, length, ltb}
 use Rattle.std.proofs.Math.Path.{refl, sym, ap}
-use Rattle.std.proofs.Common.{ap₂, ◌∙◌, arith}
+use Rattle.std.proofs.Common.{◌∙◌, arith}
 use borrow.Author.Tests.{lt-ltb, le-ltb, ltb-true, ltb-false}
 use Rattle.std.proofs.Math.ListN.{length-replicate}
 use Rattle.std.proofs.Math.Seq.{set_out}
@@ -19,6 +19,7 @@ use Rattle.rules.specs.declared.Answer.{Answer}
 use Rattle.rules.specs.declared.Answer.TheVariants.{Ok, Refused, Ignored, Woke}
 use Rattle.rules.specs.declared.Control.{Control}
 use Rattle.rules.specs.declared.Ruling.{Ruling}
+use Rattle.rules.specs.declared.Target.TheVariants.{Place}
 use Rattle.rules.specs.declared.Verdict.{Verdict}
 use Rattle.rules.specs.declared.Verdict.TheVariants.{Say, Store, Send}
 use Rattle.rules.specs.Steps.{Step, reset, sync, sync_due, slot, frame, fault, timeout, hide}
@@ -41,7 +42,7 @@ use Rattle.controller.specs.declared.Done.{Done}
 use Rattle.controller.specs.Carry.{heads, row_at, move_all, hold_all, answer_of, Outcome, carry, reset_state}
 use Rattle.controller.specs.Session.{step_of}
 use Rattle.controller.specs.Calls.{done_of, accepted}
-use Rattle.controller.specs.Code.{answered, counted_by, unlooked, staying, told_of, saying, storing, placing, putting, placed, held_by, changed, ruling_for, slot_ruling, kept_from, said_change, event_change, frame_change, row_index, room_by}
+use Rattle.controller.specs.Code.{answered, counted_by, unlooked, staying, told_of, saying, storing, placing, putting, changed, ruling_for, slot_ruling, kept_from, said_change, event_change, frame_change, row_index, room_by}
 
 -- the rules are given the step itself
 pub step-plain : (c : Controller) (e : Step) → step_of c e ≡ carry e c.rows c.held (decide c.control (heads c.rows) e)
@@ -49,34 +50,6 @@ unfolding step_of
 step-plain c e = ap (carry e c.rows c.held) (decide-hide c.control (heads c.rows) e)
 
 -- ---- a change carried out
-
-module _ (rows : List Contents) (n : ℕ) (bytes : List ℕ) where
-  pub placed-none : 16 ≤ n → placed rows n bytes ≡ rows
-  unfolding placed
-  placed-none h = pick-false (ltb n 16) _ _ (le-ltb n 16 h)
-
-  pub placed_one : n < 16 → placed rows n bytes ≡ set rows n (record { bytes = bytes })
-  unfolding placed
-  placed_one h = pick_true (ltb n 16) _ _ (lt-ltb n 16 h)
-
--- no waiting place changes
-pub held_none : (held : List Contents) (n : ℕ) (bytes : List ℕ) → held_by held n 2 bytes ≡ held
-unfolding held_by pick
-held_none held n bytes = pick-keeps (λ (x : List Contents). x ≡ held) (ltb n 16) (λ t. refl) (λ t. refl)
-
-pub held-by-row : (held : List Contents) (n k : ℕ) (bytes : List ℕ) → n < 16 → held_by held n k bytes ≡ held
-unfolding held_by
-held-by-row held n k bytes h = pick_true (ltb n 16) _ _ (lt-ltb n 16 h)
-
--- place k does
-pub held_one : (held : List Contents) (n k : ℕ) (bytes : List ℕ) → 16 ≤ n → k < 2 → held_by held n k bytes ≡ set held k (record { bytes = bytes })
-unfolding held_by
-held_one held n k bytes past h = pick-false (ltb n 16) _ _ (le-ltb n 16 past) ∙ pick_true (ltb k 2) _ _ (lt-ltb k 2 h)
-
--- none does
-pub held-no-place : (held : List Contents) (n k : ℕ) (bytes : List ℕ) → 16 ≤ n → 2 ≤ k → held_by held n k bytes ≡ held
-unfolding held_by
-held-no-place held n k bytes past h = pick-false (ltb n 16) _ _ (le-ltb n 16 past) ∙ pick-false (ltb k 2) _ _ (le-ltb k 2 h)
 
 -- row being the one to look at for buffer n
 pub row-own : (rows : List Contents) (n : ℕ) (row : Contents) → n < 16 → row ≡ row_at rows (n % 16) → row ≡ row_at rows n
@@ -88,7 +61,7 @@ row-own rows n row h e = e ∙ ap (row_at rows) small
 -- where nothing was looked up, the answer tells the count 0
 pub unlooked-told : (c : Controller) (a : Answer) → is_looked_up a ≡ false → staying c (unlooked a) ≡ answered c a
 unfolding looked_by
-unlooked-told c a u = ap (λ (k : ℕ). record { next = c; answer = a; looked = k }) (sym (pick-false (is_looked_up a) _ _ u))
+unlooked-told c a u = ap (λ (k : ℕ). staying c (record { answer = a; looked = k })) (sym (pick-false (is_looked_up a) _ _ u))
 
 module _ (c : Controller) (d : Control) (x : Answered) where
   -- the record with these bytes, and the answer
@@ -96,31 +69,28 @@ module _ (c : Controller) (d : Control) (x : Answered) where
   given rows held = staying (record { control = d; rows = rows; held = held }) x
 
   pub says-only : changed c (saying d x) ≡ given c.rows c.held
-  says-only = ap₂ given (placed-none c.rows 16 (replicate 14 0) (omega arith)) (held_none c.held 16 (replicate 14 0))
+  says-only = refl
 
   -- place k becomes b
-  pub places-held : (k : ℕ) (b : Contents) → k < 2 → changed c (storing d 16 k b.bytes x) ≡ given c.rows (set c.held k b)
-  places-held k b h = ap₂ given (placed-none c.rows 16 b.bytes (omega arith)) (held_one c.held 16 k b.bytes (omega arith) h)
+  pub places-held : (k : ℕ) (b : Contents) → changed c (storing d (Place k) b x) ≡ given c.rows (set c.held k b)
+  places-held k b = refl
 
   -- buffer n becomes b
-  pub places_row : (n : ℕ) (b : Contents) → length c.rows ≡ 16 → changed c (placing d n b.bytes x) ≡ given (set c.rows n b) c.held
-  places_row n b sixteen =
-      let held = held_none c.held n b.bytes in
-      by-test (ltb n 16) (λ t. ap₂ given (placed_one c.rows n b.bytes (ltb-true n 16 t)) held)
-      (λ t. let past = ltb-false n 16 t in ap₂ given (placed-none c.rows n b.bytes past ∙ sym (set_out c.rows n b (omega arith))) held)
+  pub places_row : (n : ℕ) (b : Contents) → changed c (placing d n b x) ≡ given (set c.rows n b) c.held
+  places_row n b = refl
 
   -- buffer n becomes what w makes of it, which is had from the row to look at
   pub puts-row : (w : Contents → Contents) (n : ℕ) (row : Contents) → length c.rows ≡ 16 → row ≡ row_at c.rows (n % 16) →
-      changed c (putting d n (w row).bytes x) ≡ given (set c.rows n (w (row_at c.rows n))) c.held
+      changed c (putting d n (w row) x) ≡ given (set c.rows n (w (row_at c.rows n))) c.held
   puts-row w n row sixteen e = by-test (ltb n 16) inside outside
     where
-      inside : ltb n 16 ≡ true → changed c (putting d n (w row).bytes x) ≡ given (set c.rows n (w (row_at c.rows n))) c.held
+      inside : ltb n 16 ≡ true → changed c (putting d n (w row) x) ≡ given (set c.rows n (w (row_at c.rows n))) c.held
       inside t =
           ap (changed c) (pick_true (ltb n 16) _ _ t)
-          ∙ places_row n (w row) sixteen
+          ∙ places_row n (w row)
           ∙ ap (λ (b : Contents). given (set c.rows n (w b)) c.held) (row-own c.rows n row (ltb-true n 16 t) e)
 
-      outside : ltb n 16 ≡ false → changed c (putting d n (w row).bytes x) ≡ given (set c.rows n (w (row_at c.rows n))) c.held
+      outside : ltb n 16 ≡ false → changed c (putting d n (w row) x) ≡ given (set c.rows n (w (row_at c.rows n))) c.held
       outside t =
           let past = ltb-false n 16 t in
           ap (changed c) (pick-false (ltb n 16) _ _ t) ∙ says-only ∙ ap (λ (rows : List Contents). given rows c.held) (sym (set_out c.rows n _ (omega arith)))
@@ -130,7 +100,7 @@ module _ (c : Controller) (d : Control) (x : Answered) where
 -- a verdict's row is one of the sixteen
 pub row_within : (v : Verdict) → row_index v < 16
 row_within (Say a) = omega arith
-row_within (Store n k a) = omega arith
+row_within (Store t a) = omega arith
 row_within (Send n) = omega arith
 
 answer-told : (d : Control) (e : Step) (rows : List Contents) (r : Reply) → looked_in d r ≡ looked_by d (answer_of e rows r)
@@ -144,7 +114,7 @@ pub step-told : (c : Controller) (e : Step) → done_of (step_of c e) ≡ told_o
 unfolding step_of carry
 step-told c e =
     let p = decide c.control (heads c.rows) (hide e) in
-    ap (λ (k : ℕ). record { next = (step_of c e).next; answer = (step_of c e).answer; looked = k })
+    ap (λ (k : ℕ). staying (step_of c e).next (record { answer = (step_of c e).answer; looked = k }))
     ((decide-told c.control (heads c.rows) (hide e)).told ∙ answer-told p.control e c.rows p.reply)
 
 -- what the step does, as its plan is carried out
@@ -214,8 +184,8 @@ pub frame-stores : (c : Controller) → length c.rows ≡ 16 → (good : Bool) (
     changed c (frame_change (ruling_of p) f) ≡ told_of (carry (frame good f) c.rows c.held p)
 unfolding carry move_all hold_all frame_change
 frame-stores c sixteen good f p (drops d a k q r) = says-only c d (counted_by d a)
-frame-stores c sixteen good f p (waits d j a k h q) = places-held c d (counted_by d a) j (image_of f) h
-frame-stores c sixteen good f p (puts d n a k q) = places_row c d (counted_by d a) n (image_of f) sixteen
+frame-stores c sixteen good f p (waits d j a k h q) = places-held c d (counted_by d a) j (image_of f)
+frame-stores c sixteen good f p (puts d n a k q) = places_row c d (counted_by d a) n (image_of f)
 
 -- ---- what the events change
 

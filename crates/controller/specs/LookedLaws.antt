@@ -13,7 +13,7 @@ use Rattle.controller.specs.Session.{step_of}
 use Rattle.controller.specs.CodeLaws.{step-told}
 
 pub by_answer : (c : Controller) (e : Step) → (step_of c e).looked ≡ looked_by (step_of c e).next.control (step_of c e).answer
-by_answer c e = ap (λ (d : Done). d.looked) (step-told c e)
+by_answer c e = ap (λ (d : Done). d.answered.looked) (step-told c e)
 
 pub at_most : (c : Control) (a : Answer) → looked_by c a ≤ 16
 unfolding looked_by

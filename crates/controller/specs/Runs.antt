@@ -15,7 +15,7 @@ pub data Runs : Controller → List Step → List Report → Type 0 where
   ends : {c : Controller} → Runs c [] []
   calls : {c : Controller} {e : Step} {es : List Step} {rs : List Report} (d : Done) (room : List ℕ) (lines : ℕ) →
       d ≡ done_of (step_of c e) → room ≡ (step_of c e).room → lines ≡ lines_of d.next.control →
-      Runs d.next es rs → Runs c (e ∷ es) (shown d.answer room lines d.looked ∷ rs)
+      Runs d.next es rs → Runs c (e ∷ es) (shown d.answered.answer room lines d.answered.looked ∷ rs)
 
 -- Demand 3, both halves, of what runs: alike sessions show the same, but for what `seen_all` puts to 0, and each shows what
 -- document 01's rules give from reset for its list alone.

@@ -6,16 +6,17 @@ ghost use Rattle.controller.specs.Carry.{reset_state};
 ghost use Rattle.controller.specs.Session.{step_of};
 ghost use Rattle.controller.specs.Calls.{done_of, step_for, room_for};
 
-use crate::changes::{carried, with_answer};
+use crate::changes::{accepted, carried};
 use crate::{Call, Controller, Done, events, registers};
-use contents::Contents;
+use contents::BLANK;
 use filter::Filter;
 use locks::Locks;
 use masks::NONE;
-use rules::{Answer, Buffers, Config, Control, Events, Fault, Fifo, Mode, Places, SyncKind};
+use rules::{Buffers, Config, Control, Events, Fault, Fifo, Mode, Places, SyncKind};
 
 impl Controller {
     // The record after reset.
+    #[tactic(auto, unfolding(crate::specs::Carry::reset_state, rules::specs::Registers::reset_control))]
     pub fn after_reset() -> Controller
         ensures { result ≡ reset_state }
     {
@@ -27,7 +28,6 @@ impl Controller {
             holder: NONE,
             contender: NONE,
         };
-        let blank = Contents { bytes: [0u8; 14] };
         Controller {
             control: Control {
                 mode: Mode {
@@ -77,8 +77,8 @@ impl Controller {
                     armed: 0,
                 },
             },
-            rows: [blank; 16],
-            held: [blank; 2],
+            rows: [BLANK; 16],
+            held: [BLANK; 2],
         }
     }
 
@@ -96,8 +96,7 @@ impl Controller {
     {
         Done {
             next: Controller::after_reset(),
-            answer: Answer::Ok,
-            looked: 0,
+            answered: accepted(),
         }
     }
 
@@ -108,13 +107,9 @@ impl Controller {
         let c = self.control;
         let i = registers::window_row(c, a);
         let row = self.rows[i];
-        let said = registers::read_answer(c, a, row);
-        let answer = said.answer;
-        let looked = said.looked;
         Done {
             next: self,
-            answer,
-            looked,
+            answered: registers::read_answer(c, a, row),
         }
     }
 

@@ -1,13 +1,13 @@
 // A change, and the record after it.
-ghost use Rattle.std.specs.Prelude.{◌≡◌};
+ghost use Rattle.std.specs.Prelude.{◌≡◌, set};
 ghost use Rattle.controller.specs.Calls.{accepted};
-ghost use Rattle.controller.specs.Code.{counted_by, unlooked, changed, saying, storing, placing};
+ghost use Rattle.controller.specs.Code.{counted_by, unlooked, changed, saying, placing};
 ghost use Rattle.rules.specs.LookedLaws.{looked_by};
 
-use crate::{Answered, Change, Controller, Done};
+use crate::{Answered, Change, Controller, Done, Stored};
 use contents::Contents;
 use masks::NONE;
-use rules::{Answer, Control};
+use rules::{Answer, Control, Target};
 
 // How many dedicated receive buffers were examined for an answer after which the control state is c: those up to the buffer that
 // carries the frame's identifier, or all. No frame changes which they are.
@@ -16,22 +16,26 @@ fn looked(c: Control, a: Answer) -> u8
     ensures { result ≡ looked_by c a }
 {
     match a {
-        Answer::Stored(n) => kinds::examined(c, n),
-        Answer::Waiting(n) => kinds::examined(c, n),
-        Answer::HeldOff(n) => kinds::examined(c, n),
-        Answer::Queued(_) | Answer::Overrun | Answer::Unmatched => kinds::examined(c, NONE),
+        Answer::Stored(n) | Answer::Waiting(n) | Answer::HeldOff(n) => {
+            kinds::examined(c, Some(n))
+        }
+        Answer::Queued(_) | Answer::Overrun | Answer::Unmatched => kinds::examined(c, None),
         _ => 0,
     }
+}
+
+// An answer of no lookup.
+pub(crate) fn unlooked(answer: Answer) -> Answered
+    ensures { result ≡ unlooked answer }
+{
+    Answered { answer, looked: 0 }
 }
 
 // The answer of a step that is done and shows nothing.
 pub fn accepted() -> Answered
     ensures { result ≡ accepted }
 {
-    Answered {
-        answer: Answer::Ok,
-        looked: 0,
-    }
+    unlooked(Answer::Ok)
 }
 
 // An answer with its count, c being the control state after it.
@@ -48,96 +52,57 @@ pub(crate) fn counted(c: Control, a: Answer) -> Answered
 pub(crate) fn with_answer(control: Control, a: Answer) -> Change
     ensures { result ≡ saying control (unlooked a) }
 {
-    with_count(
+    Change {
         control,
-        Answered {
-            answer: a,
-            looked: 0,
-        },
-    )
+        stored: None,
+        answered: unlooked(a),
+    }
 }
 
 // The control state, and the bytes of buffer n, where nothing was looked up.
-pub(crate) fn with_bytes(control: Control, n: u8, bytes: [u8; 14], a: Answer) -> Change
-    ensures { result ≡ placing control n bytes (unlooked a) }
+pub(crate) fn with_bytes(control: Control, n: u8, contents: Contents, a: Answer) -> Change
+    ensures { result ≡ placing control n contents (unlooked a) }
 {
-    with_counted_bytes(
+    let to = Target::Buffer(n);
+    Change {
         control,
-        n,
-        2,
-        bytes,
-        Answered {
-            answer: a,
-            looked: 0,
-        },
-    )
-}
-
-// The control state alone.
-pub(crate) fn with_count(control: Control, x: Answered) -> Change
-    ensures { result ≡ saying control x }
-{
-    Change {
-        control: control,
-        buffer: NONE,
-        place: 2,
-        bytes: [0u8; 14],
-        answered: x,
+        stored: Some(Stored { to, contents }),
+        answered: unlooked(a),
     }
 }
 
-// The control state, and the bytes of buffer n, or of waiting place k.
-pub(crate) fn with_counted_bytes(
-    control: Control,
-    n: u8,
-    k: u8,
-    bytes: [u8; 14],
-    x: Answered,
-) -> Change
-    ensures { result ≡ storing control n k bytes x }
+// Row n becomes contents; past the last there is none. By index: what `get_mut` lends is not tied to the rows afterwards, and nothing
+// would be proved.
+fn put(rows: &mut [Contents], n: u8, contents: Contents)
+    ensures { rows.new ≡ set rows.old n contents }
 {
-    Change {
-        control: control,
-        buffer: n,
-        place: k,
-        bytes: bytes,
-        answered: x,
+    let i = n as usize;
+    if i < rows.len() {
+        rows[i] = contents;
     }
+}
+
+// The change carried out: the control state, and the one buffer or waiting place whose bytes change. The control state first: what the
+// compiler sees to be there already, since nothing was stored after it was read, is not written back.
+pub fn carry(c: &mut Controller, x: Change) -> Answered
+    ensures next { c.new ≡ (changed c.old x).next }
+    ensures answered { result ≡ x.answered }
+{
+    c.control = x.control;
+    if let Some(Stored { to, contents }) = x.stored {
+        match to {
+            Target::Buffer(n) => put(&mut c.rows, n, contents),
+            Target::Place(k) => put(&mut c.held, k, contents),
+        }
+    }
+    x.answered
 }
 
 // The record after a change, and what it is answered.
 pub(crate) fn carried(c: Controller, x: Change) -> Done
     ensures { result ≡ changed c x }
 {
-    let control = x.control;
-    let said = x.answered;
-    let answer = said.answer;
-    let looked = said.looked;
     let mut next = c;
-    next.control = control;
-    if x.buffer < NONE {
-        let i = x.buffer as usize;
-        let b = x.bytes;
-        next.rows[i] = Contents { bytes: b };
-        return Done {
-            next: next,
-            answer,
-            looked,
-        };
-    }
-    if x.place < 2 {
-        let k = x.place as usize;
-        let b = x.bytes;
-        next.held[k] = Contents { bytes: b };
-        return Done {
-            next: next,
-            answer,
-            looked,
-        };
-    }
-    Done {
-        next: next,
-        answer,
-        looked,
-    }
+    let answered = carry(&mut next, x);
+    Done { next, answered }
 }

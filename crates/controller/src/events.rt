@@ -2,18 +2,18 @@
 ghost use Rattle.std.specs.Prelude.{◌≡◌, ◌%◌, List};
 ghost use Rattle.contents.specs.declared.Contents.{Contents};
 ghost use Rattle.rules.specs.Bus.{lookup, offers};
-ghost use Rattle.masks.specs.Bits.{highest, mask_of};
+ghost use Rattle.masks.specs.Bits.{highest, mask_of, number_in};
 ghost use Rattle.bus_steps.specs.Code.{is_ready};
 ghost use Rattle.rules.specs.Steps.Step.{sync, sync_due, frame, fault, timeout};
 ghost use Rattle.controller.specs.declared.Controller.{Controller};
 ghost use Rattle.controller.specs.Carry.{heads, row_at};
-ghost use Rattle.controller.specs.Code.{ruling_for, slot_ruling, kept_from, said_by, said_change, event_change, frame_change, row_index, bytes_at, slot_answer, slot_change, room_sent};
+ghost use Rattle.controller.specs.Code.{ruling_for, slot_ruling, kept_from, said_by, said_change, event_change, stored_by, frame_change, row_index, contents_at, slot_answer, slot_change, room_sent};
 
-use crate::changes::{counted, with_answer, with_count, with_counted_bytes};
-use crate::{Change, Controller};
-use contents::Contents;
+use crate::changes::{counted, with_answer};
+use crate::{Change, Controller, Stored};
+use contents::{BLANK, Contents};
 use masks::NONE;
-use rules::{Answer, Control, Fault, Ruling, SyncKind, Verdict};
+use rules::{Answer, Control, Fault, Refusal, Ruling, SyncKind, Verdict};
 
 // Index of buffer n's row. For 16 (no buffer) any row will do; callers don't use it.
 pub(crate) fn row_index(n: u8) -> usize
@@ -22,40 +22,35 @@ pub(crate) fn row_index(n: u8) -> usize
     n as usize % 16
 }
 
-// The bytes of buffer n, whose row is given; zeros for no buffer.
-fn bytes_at(n: u8, row: Contents) -> [u8; 14]
-    ensures { result ≡ bytes_at n row }
+// The contents of buffer n, whose row is given; zeros for no buffer.
+#[tactic(auto, unfolding(crate::specs::Code::contents_at, masks::specs::Pick::pick))]
+fn contents_at(n: u8, row: Contents) -> Contents
+    ensures { result ≡ contents_at n row }
 {
-    if NONE <= n {
-        return [0u8; 14];
-    }
-    row.bytes
+    if n < NONE { row } else { BLANK }
 }
 
 // The control state d with the configuration, the locks and the waiting places of c. Of the events of the bus a frame alone changes these,
 // and it takes another path: taken from c, from before the step, they are seen to be there already, and are not written back.
+#[tactic(auto, unfolding(crate::specs::Code::kept_from))]
 fn kept_from(c: Control, d: Control) -> Control
     ensures { result ≡ kept_from c d }
 {
-    let config = c.config;
-    let receive = c.receive;
-    let transmit = c.transmit;
-    let places = c.places;
-    let mut next = d;
-    next.config = config;
-    next.receive = receive;
-    next.transmit = transmit;
-    next.places = places;
-    next
+    Control {
+        config: c.config,
+        receive: c.receive,
+        transmit: c.transmit,
+        places: c.places,
+        ..d
+    }
 }
 
-// The answer of a verdict that sends nothing.
+// The answer of a verdict that sends nothing. No method of `Verdict`: crate rules doesn't have the definition.
 fn answer_of(verdict: Verdict) -> Answer
     ensures { result ≡ said_by verdict }
 {
     match verdict {
-        Verdict::Say(a) => a,
-        Verdict::Store(_, _, a) => a,
+        Verdict::Say(a) | Verdict::Store(_, a) => a,
         Verdict::Send(_) => Answer::Ok,
     }
 }
@@ -64,37 +59,30 @@ fn answer_of(verdict: Verdict) -> Answer
 fn said(c: Control, r: Ruling) -> Change
     ensures { result ≡ said_change c r }
 {
-    let d = r.next;
-    let control = kept_from(c, d);
-    let verdict = r.verdict;
-    with_answer(control, answer_of(verdict))
+    with_answer(kept_from(c, r.next), answer_of(r.verdict))
 }
 
 // The room after a verdict on a slot: a sent frame fills its first bytes.
 fn fill(verdict: Verdict, row: Contents, room: &mut [u8])
     ensures { (rows : List Contents) → row ≡ row_at rows (row_index verdict) → room.new ≡ room_sent rows room.old verdict }
 {
-    match verdict {
-        Verdict::Say(_) => {}
-        Verdict::Store(_, _, _) => {}
-        Verdict::Send(n) => {
-            sending::send(bytes_at(n, row), room);
-        }
+    if let Verdict::Send(n) = verdict {
+        sending::send(contents_at(n, row).bytes, room);
     }
 }
 
-// The lowest dedicated receive buffer with identifier i, or NONE.
-fn lookup(c: Controller, i: u8) -> u8
-    ensures { result ≡ lookup c.control (heads c.rows) i }
+// The lowest dedicated receive buffer with identifier i, if any.
+fn lookup(c: Controller, i: u8) -> Option<u8>
+    ensures { number_in result ≡ lookup c.control (heads c.rows) i }
 {
     let d = c.control;
     let r = c.rows;
     search::lowest_with(r, kinds::receivers(d), i)
 }
 
-// The highest armed buffer with identifier i, or NONE.
-fn offering(c: Controller, i: u8) -> u8
-    ensures { result ≡ highest (offers c.control (heads c.rows) i) 16 }
+// The highest armed buffer with identifier i, if any.
+fn offering(c: Controller, i: u8) -> Option<u8>
+    ensures { number_in result ≡ highest (offers c.control (heads c.rows) i) 16 }
 {
     let d = c.control;
     let r = c.rows;
@@ -154,26 +142,38 @@ pub fn frame_ruling(c: Controller, good: bool, f: &[u8]) -> Ruling
     if !receiving::well_sized(f) {
         return Ruling {
             next: d,
-            verdict: Verdict::Say(Answer::Refused(11)),
+            verdict: Verdict::Say(Answer::from(Refusal::FrameSize)),
         };
     }
     let i = f[0];
     bus_steps::on_frame(d, good, i, lookup(c, i))
 }
 
-// What a frame's ruling changes. It never sends. The count is worked out before the ways part: one place instead of two.
+// What a verdict on the frame f stores.
+fn stored(verdict: Verdict, f: &[u8]) -> Option<Stored>
+    ensures { result ≡ stored_by f.now verdict }
+{
+    match verdict {
+        Verdict::Store(to, _) => {
+            let contents = Contents {
+                bytes: receiving::store_frame(f),
+            };
+            Some(Stored { to, contents })
+        }
+        _ => None,
+    }
+}
+
+// What a frame's ruling changes. It never sends. The count is worked out first: behind the frame's bytes it cost 50 instructions more.
+#[tactic(auto, unfolding(crate::specs::Code::frame_change))]
 pub fn frame_change(r: Ruling, f: &[u8]) -> Change
     ensures { result ≡ frame_change r f.now }
 {
-    let control = r.next;
-    let verdict = r.verdict;
-    let x = counted(control, answer_of(verdict));
-    match verdict {
-        Verdict::Say(_) => with_count(control, x),
-        Verdict::Store(n, k, _) => {
-            with_counted_bytes(control, n, k, receiving::store_frame(f), x)
-        }
-        Verdict::Send(_) => with_count(control, x),
+    let answered = counted(r.next, answer_of(r.verdict));
+    Change {
+        control: r.next,
+        stored: stored(r.verdict, f),
+        answered,
     }
 }
 
@@ -185,7 +185,7 @@ pub fn slot_ruling(c: Controller, i: u8, size: usize) -> Ruling
     if size < 14 {
         return Ruling {
             next: d,
-            verdict: Verdict::Say(Answer::Refused(12)),
+            verdict: Verdict::Say(Answer::from(Refusal::RoomSize)),
         };
     }
     bus_steps::on_slot(d, i, offering(c, i))
@@ -195,11 +195,9 @@ pub fn slot_ruling(c: Controller, i: u8, size: usize) -> Ruling
 pub fn row_of(r: Ruling) -> usize
     ensures { result ≡ row_index r.verdict }
 {
-    let verdict = r.verdict;
-    match verdict {
-        Verdict::Say(_) => 0,
-        Verdict::Store(_, _, _) => 0,
+    match r.verdict {
         Verdict::Send(n) => row_index(n),
+        _ => 0,
     }
 }
 
@@ -208,19 +206,17 @@ fn slot_answer(verdict: Verdict, row: Contents) -> Answer
     ensures { result ≡ slot_answer row verdict }
 {
     match verdict {
-        Verdict::Say(a) => a,
-        Verdict::Store(_, _, a) => a,
-        Verdict::Send(n) => Answer::Sent(sending::frame_size(bytes_at(n, row))),
+        Verdict::Say(a) | Verdict::Store(_, a) => a,
+        Verdict::Send(n) => Answer::Sent(sending::frame_size(contents_at(n, row).bytes)),
     }
 }
 
 // What a slot's ruling changes, from its buffer's row; a sent frame fills the room's first bytes.
+#[tactic(auto, unfolding(crate::specs::Code::slot_change))]
 pub fn slot_change(r: Ruling, row: Contents, room: &mut [u8]) -> Change
     ensures value { result ≡ slot_change r row }
     ensures room_after { (c : Controller) → row ≡ row_at c.rows (row_index r.verdict) → room.new ≡ room_sent c.rows room.old r.verdict }
 {
-    let control = r.next;
-    let verdict = r.verdict;
-    fill(verdict, row, room);
-    with_answer(control, slot_answer(verdict, row))
+    fill(r.verdict, row, room);
+    with_answer(r.next, slot_answer(r.verdict, row))
 }

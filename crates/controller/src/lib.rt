@@ -2,7 +2,7 @@
 // What it shows are document 01's calls, as methods that take the record by value and return the next one with its answer, one for
 // each call or event; none asks anything of its caller. The other modules say what a call changes, for these methods and for the step
 // on a lent record.
-#![tactic(auto)]
+#![tactic(auto, unfolding(masks::specs::Pick::pick))]
 
 mod calls;
 pub mod changes;
@@ -10,7 +10,7 @@ pub mod events;
 pub mod registers;
 
 use contents::Contents;
-use rules::{Answer, Control, Fault, SyncKind};
+use rules::{Answer, Control, Fault, SyncKind, Target};
 
 #[repr(C)]
 #[derive(Clone, Copy)]
@@ -27,23 +27,26 @@ pub struct Answered {
     pub looked: u8,
 }
 
-// The record after a call or an event, its answer, and how many dedicated receive buffers were examined.
+// The record after a call or an event, and what it is answered.
 #[derive(Clone, Copy)]
 pub struct Done {
     pub next: Controller,
-    pub answer: Answer,
-    pub looked: u8,
+    pub answered: Answered,
 }
 
-// What a step changes: the control state, and the bytes of one buffer, or of none where its number is 16 or more, or of one waiting
-// place, 0 or 1, or of none where that number is 2 or more. It is small, so that a step in place writes no more of the record than it
-// changes.
+// What is stored in a buffer or a waiting place; in none where its number is too large.
+#[derive(Clone, Copy)]
+pub struct Stored {
+    pub to: Target,
+    pub contents: Contents,
+}
+
+// What a step changes: the control state, and the bytes of one buffer or waiting place at most. It is small, so that a step in place
+// writes no more of the record than it changes.
 #[derive(Clone, Copy)]
 pub struct Change {
     pub control: Control,
-    pub buffer: u8,
-    pub place: u8,
-    pub bytes: [u8; 14],
+    pub stored: Option<Stored>,
     pub answered: Answered,
 }
 

@@ -1,6 +1,6 @@
 -- Answers as numbers for C: each part is read as it was put in, none is taken for another, and after any steps that bring bytes every
 -- answer's detail is a byte.
-use Rattle.std.specs.Prelude.{◌≡◌, refl, ℕ, ◌<◌, List}
+use Rattle.std.specs.Prelude.{◌≡◌, ℕ, ◌<◌, List}
 use Rattle.std.proofs.Common.{sym, ap, ap₂, ◌∙◌, arith}
 use Rattle.rules.specs.declared.Answer.{Answer}
 use Rattle.rules.specs.Answers.{word_of, given_of, number_in}

@@ -1,6 +1,7 @@
 -- Steps that bring bytes leave bytes in the record.
-use Rattle.std.specs.Prelude.{ℕ, zero, suc, ◌-◌, ◌<◌, List, [], ◌∷◌, ◌++◌, map, get_or, set, take, replicate}
-use Rattle.std.proofs.Common.{sym, subst, arith}
+use Rattle.std.specs.Prelude.{ℕ, zero, suc, ◌-◌, ◌<◌, ◌≡◌, refl, Bool, true, false, ltb, List, [], ◌∷◌, ◌++◌, map, get_or, set, take, replicate, Option, Some, None, IfSome, option_map}
+use Rattle.std.specs.Bool.{then_some}
+use Rattle.std.proofs.Common.{sym, subst, arith, ltb-true}
 use Rattle.std.proofs.Math.ListN.{drop}
 use Rattle.masks.specs.PickLaws.{pick-keeps}
 use Rattle.contents.specs.declared.Contents.{Contents}
@@ -15,7 +16,9 @@ use Rattle.controller.specs.Carry.{reset_state, heads, row_at, move, move_all, h
 use Rattle.controller.specs.Session.{step_of, end_by, end_of}
 use Rattle.controller.specs.ViewLaws.{head_at_lem}
 use Rattle.controller.specs.Calls.{step_for}
-use Rattle.encoding.specs.Code.{meant_of}
+use Rattle.controller.specs.declared.Call.{Call}
+use Rattle.controller.specs.declared.Call.TheVariants.{Write, Sync, Slot, Frame, Fault}
+use Rattle.encoding.specs.Calls.{address_of, byte_of, sync_of, verdict_of, fault_of, call_of}
 use Rattle.encoding.specs.Bytes.{Bytes, BringsBytes, AllBytes}
 use Rattle.encoding.specs.ByteListLaws.{set_all, replicate-all, set-bytes, zero-bytes, no_bytes_lem, cons-bytes, drop-bytes, take-bytes, append-bytes}
 use Rattle.encoding.specs.ByteRuleLaws.{InBytes, put_by, said_by, PlanBytes, HeadBytes, reset-control-bytes, decide-bytes}
@@ -152,15 +155,30 @@ unfolding end_of end_by step_of
 end-bytes c [] h b = h
 end-bytes c (e ∷ es) h b = end-bytes (step_of c e).next es (step-bytes c e h b.0) b.1
 
+module _ {A B : Type 0} (P : B → Type 0) (make : A → B) where
+  if-made : (o : Option A) → ((x : A) → P (make x)) → IfSome (option_map make o) P
+  if-made None h = tt
+  if-made (Some x) h = h x
+
+  if-kept : (t : Bool) (x : A) → (t ≡ true → P (make x)) → IfSome (option_map make (then_some t x)) P
+  if-kept true x h = h refl
+  if-kept false x h = tt
+
 -- the steps that callers in C make, each of a kind and its two numbers, bring bytes where the frame slice has bytes alone
-pub calls-bring-bytes : (kind first second : ℕ) (f room : List ℕ) → Bytes f → BringsBytes (step_for (meant_of kind first second) f room)
-unfolding meant_of
-calls-bring-bytes zero first second f room b = record { value = omega arith; frame = no_bytes_lem }
-calls-bring-bytes (suc zero) first second f room b = record { value = omega arith; frame = no_bytes_lem }
-calls-bring-bytes (suc (suc zero)) first second f room b = record { value = omega arith; frame = no_bytes_lem }
-calls-bring-bytes (suc (suc (suc zero))) first second f room b = record { value = omega arith; frame = no_bytes_lem }
-calls-bring-bytes (suc (suc (suc (suc zero)))) first second f room b = record { value = omega arith; frame = no_bytes_lem }
-calls-bring-bytes (suc (suc (suc (suc (suc zero))))) first second f room b = record { value = omega arith; frame = no_bytes_lem }
-calls-bring-bytes (suc (suc (suc (suc (suc (suc zero)))))) first second f room b = record { value = omega arith; frame = b }
-calls-bring-bytes (suc (suc (suc (suc (suc (suc (suc zero))))))) first second f room b = record { value = omega arith; frame = no_bytes_lem }
-calls-bring-bytes (suc (suc (suc (suc (suc (suc (suc (suc n)))))))) first second f room b = record { value = omega arith; frame = no_bytes_lem }
+module _ (f room : List ℕ) (b : Bytes f) where
+  abbrev Brings : Call → Type 0
+  Brings call = BringsBytes (step_for call f room)
+
+  pub calls-bring-bytes : (kind first second : ℕ) → IfSome (call_of kind first second) Brings
+  unfolding call_of byte_of
+  calls-bring-bytes zero first second = record { value = omega arith; frame = no_bytes_lem }
+  calls-bring-bytes (suc zero) first second = record { value = omega arith; frame = no_bytes_lem }
+  calls-bring-bytes (suc (suc zero)) first second =
+      if-kept Brings (Write (address_of first)) (ltb second 256) second (λ e. record { value = ltb-true second 256 e; frame = no_bytes_lem })
+  calls-bring-bytes (suc (suc (suc zero))) first second = if-made Brings Sync (sync_of first) (λ k. record { value = omega arith; frame = no_bytes_lem })
+  calls-bring-bytes (suc (suc (suc (suc zero)))) first second = record { value = omega arith; frame = no_bytes_lem }
+  calls-bring-bytes (suc (suc (suc (suc (suc zero))))) first second = if-made Brings Slot (byte_of first) (λ n. record { value = omega arith; frame = no_bytes_lem })
+  calls-bring-bytes (suc (suc (suc (suc (suc (suc zero)))))) first second = if-made Brings Frame (verdict_of first) (λ good. record { value = omega arith; frame = b })
+  calls-bring-bytes (suc (suc (suc (suc (suc (suc (suc zero))))))) first second = if-made Brings Fault (fault_of first) (λ k. record { value = omega arith; frame = no_bytes_lem })
+  calls-bring-bytes (suc (suc (suc (suc (suc (suc (suc (suc zero)))))))) first second = record { value = omega arith; frame = no_bytes_lem }
+  calls-bring-bytes (suc (suc (suc (suc (suc (suc (suc (suc (suc n))))))))) first second = tt

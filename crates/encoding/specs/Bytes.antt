@@ -1,6 +1,6 @@
 -- Steps that bring bytes: numbers below 256.
 use Rattle.std.specs.Prelude.{ℕ, ◌<◌, List, [], ◌∷◌, get_or}
-use Rattle.rules.specs.Steps.{Step, frame, value_in, frame_in}
+use Rattle.rules.specs.Steps.{Step, value_in, frame_in}
 use Rattle.controller.specs.Carry.{reset_state}
 use Rattle.controller.specs.declared.Answered.{Answered}
 use Rattle.controller.specs.Session.{step_of, end_of}

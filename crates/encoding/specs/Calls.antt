@@ -1,7 +1,9 @@
 -- The numbers of the calls: the size that a caller's record must have, and what a kind and its two numbers stand for.
-use Rattle.std.specs.Prelude.{ℕ, true, false, List, [], ◌∷◌, get_or, ltb}
-use Rattle.masks.specs.Pick.{pick}
+use Rattle.std.specs.Prelude.{ℕ, Bool, true, false, List, [], ◌∷◌, get_or, slice_get, ltb, Option, Some, None, option_map, unwrap_or}
+use Rattle.std.specs.Bool.{then_some}
 use Rattle.rules.specs.declared.SyncKind.TheVariants.{Normal, Alarm}
+use Rattle.rules.specs.declared.SyncKind.{SyncKind}
+use Rattle.rules.specs.declared.Fault.{Fault as FaultKind}
 use Rattle.rules.specs.declared.Fault.TheVariants.{Early, Lost, Illegal, Mismatch}
 use Rattle.controller.specs.declared.Call.{Call}
 use Rattle.controller.specs.declared.Call.TheVariants.{Reset, Read, Write, Sync, SyncDue, Slot, Frame, Fault, Timeout}
@@ -10,45 +12,31 @@ use Rattle.controller.specs.declared.Call.TheVariants.{Reset, Read, Write, Sync,
 abbrev pub record_size : ℕ
 record_size = 296
 
--- what a kind and its two numbers stand for
-pub data Asked : Type 0 where
-  Known : Call → Asked
-  Unknown : Asked
+-- a number that is a byte
+unfoldable pub byte_of : ℕ → Option ℕ
+byte_of n = then_some (ltb n 256) n
 
 -- an address above 255 is above $5F, as 255 is
 unfoldable pub address_of : ℕ → ℕ
-address_of first = pick (ltb first 256) first 255
-
-unfoldable pub write_of : ℕ → ℕ → Asked
-write_of first second = pick (ltb second 256) (Known (Write (address_of first) second)) Unknown
-
-unfoldable pub slot_of : ℕ → Asked
-slot_of first = pick (ltb first 256) (Known (Slot first)) Unknown
+address_of first = unwrap_or (byte_of first) 255
 
 -- a sync's number, a frame's verdict and a fault's number, each from 0 on
-abbrev pub syncs : List Asked
-syncs = Known (Sync Normal) ∷ Known (Sync Alarm) ∷ []
+unfoldable pub sync_of : ℕ → Option SyncKind
+sync_of first = slice_get (Normal ∷ Alarm ∷ []) first
 
-abbrev pub verdicts : List Asked
-verdicts = Known (Frame false) ∷ Known (Frame true) ∷ []
+unfoldable pub verdict_of : ℕ → Option Bool
+verdict_of first = slice_get (false ∷ true ∷ []) first
 
-abbrev pub faults : List Asked
-faults = Known (Fault Early) ∷ Known (Fault Lost) ∷ Known (Fault Illegal) ∷ Known (Fault Mismatch) ∷ []
+unfoldable pub fault_of : ℕ → Option FaultKind
+fault_of first = slice_get (Early ∷ Lost ∷ Illegal ∷ Mismatch ∷ []) first
 
-unfoldable pub sync_call : ℕ → Asked
-sync_call first = get_or syncs first Unknown
-
-unfoldable pub frame_call : ℕ → Asked
-frame_call first = get_or verdicts first Unknown
-
-unfoldable pub fault_call : ℕ → Asked
-fault_call first = get_or faults first Unknown
-
--- the kinds from 0 to 8
-abbrev pub kinds : ℕ → ℕ → List Asked
+-- the calls of the kinds from 0 to 8
+abbrev pub kinds : ℕ → ℕ → List (Option Call)
 kinds first second =
-    Known Reset ∷ Known (Read (address_of first)) ∷ write_of first second
-    ∷ sync_call first ∷ Known SyncDue ∷ slot_of first ∷ frame_call first ∷ fault_call first ∷ Known Timeout ∷ []
+    Some Reset ∷ Some (Read (address_of first)) ∷ option_map (Write (address_of first)) (byte_of second)
+    ∷ option_map Sync (sync_of first) ∷ Some SyncDue ∷ option_map Slot (byte_of first)
+    ∷ option_map Frame (verdict_of first) ∷ option_map Fault (fault_of first) ∷ Some Timeout ∷ []
 
-unfoldable pub call_of : ℕ → ℕ → ℕ → Asked
-call_of kind first second = get_or (kinds first second) kind Unknown
+-- what a kind and its two numbers stand for, if for a call
+unfoldable pub call_of : ℕ → ℕ → ℕ → Option Call
+call_of kind first second = get_or (kinds first second) kind None

@@ -11,6 +11,3 @@ pub mod ByteListLaws
 pub mod ByteRuleLaws
 pub mod ByteSessionLaws
 pub mod Code
-pub mod CodeLaws
-pub mod CodeShown
-pub mod ShownLaws

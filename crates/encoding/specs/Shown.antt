@@ -1,9 +1,8 @@
 -- What is shown of a record where no step is made: the bytes that a buffer holds, and those of a frame that waits.
-use Rattle.std.specs.Prelude.{ℕ, List, [], ◌∷◌, ◌++◌, get_or, length, ltb}
+use Rattle.std.specs.Prelude.{ℕ, List, [], ◌∷◌, ◌++◌, slice_get, length, ltb, Option, Some, None}
 use Rattle.masks.specs.Pick.{pick}
 use Rattle.contents.specs.declared.Contents.{Contents}
 use Rattle.contents.specs.Bytes.{fill_room}
-use Rattle.rules.specs.declared.Places.{Places}
 use Rattle.rules.specs.declared.Control.{Control}
 use Rattle.rules.specs.declared.Answer.{Answer}
 use Rattle.rules.specs.declared.Answer.TheVariants.{Ok, Refused, Waiting}
@@ -44,14 +43,14 @@ taken c k = pick (is_free c k) [] (k ∷ [])
 unfoldable pub taken_places : Control → List ℕ
 taken_places c = pick c.places.swapped (taken c 1 ++ taken c 0) (taken c 0 ++ taken c 1)
 
--- the place of the k-th of them, 0 the oldest; 2 if there are not so many
-unfoldable pub place_of : Control → ℕ → ℕ
-place_of c k = get_or (taken_places c) k 2
+-- the place of the k-th of them, 0 the oldest, if there are so many
+unfoldable pub place_of : Control → ℕ → Option ℕ
+place_of c k = slice_get (taken_places c) k
 
--- the frame in place j, and for which buffer it waits
-unfoldable pub held_shown : Controller → ℕ → List ℕ → Shown
-held_shown c j room =
-    pick (ltb j 2) (shown_bytes (plain (Waiting (waits_for c.control.places j))) (row_at c.held j) room) (kept no_frame room)
+-- the frame in a place, and for which buffer it waits
+unfoldable pub held_shown : Controller → Option ℕ → List ℕ → Shown
+held_shown c None room = kept no_frame room
+held_shown c (Some j) room = shown_bytes (plain (Waiting (waits_for c.control.places j))) (row_at c.held j) room
 
 -- the k-th frame that waits, 0 or 1
 unfoldable pub waiting_shown : Controller → ℕ → List ℕ → Shown

@@ -1,12 +1,13 @@
-// The numbers of the answers.
+// The numbers of the answers. Answer and Answered are of other crates, which alone may write a From for them: here it is functions.
 ghost use Rattle.std.specs.Prelude.{◌≡◌};
-ghost use Rattle.rules.specs.Answers.{word_of, given_of, number_in, sync_number};
-ghost use Rattle.encoding.specs.Answers.{number_of};
+ghost use Rattle.rules.specs.Answers.{word_of, given_of, number_in};
+ghost use Rattle.encoding.specs.Answers.{number_of, said_number};
 
+use crate::Wrong;
 use controller::Answered;
-use rules::{Answer, SyncKind};
+use rules::Answer;
 
-// The number of an answer's word. 5 is unused.
+// The number of an answer's word. A table, as no order gives these: 5 is unused, and Waiting has 15.
 fn word(a: Answer) -> u8
     ensures { result ≡ word_of a }
 {
@@ -29,48 +30,35 @@ fn word(a: Answer) -> u8
     }
 }
 
-fn sync_number(k: SyncKind) -> u8
-    ensures { result ≡ sync_number k }
-{
-    match k {
-        SyncKind::Normal => 0,
-        SyncKind::Alarm => 1,
-    }
-}
-
-// The detail of an answer, 0 where it has none.
+// The detail of an answer, 0 where it has none. Not what a row shows in hex: a sent frame's size and a pulse's kind count here too.
 fn detail(a: Answer) -> u8
     ensures { result ≡ number_in (given_of a) }
 {
     match a {
-        Answer::Value(v) => v,
-        Answer::Stored(n) => n,
-        Answer::Queued(n) => n,
-        Answer::Waiting(n) => n,
-        Answer::HeldOff(n) => n,
-        Answer::Sent(k) => k,
-        Answer::Pulse(k) => sync_number(k),
-        Answer::Refused(r) => r,
-        Answer::Ok => 0,
-        Answer::Overrun => 0,
-        Answer::Unmatched => 0,
-        Answer::BadFrame => 0,
-        Answer::Ignored => 0,
-        Answer::Woke => 0,
-        Answer::NotSent => 0,
+        Answer::Value(n)
+        | Answer::Stored(n)
+        | Answer::Queued(n)
+        | Answer::Waiting(n)
+        | Answer::HeldOff(n)
+        | Answer::Sent(n)
+        | Answer::Refused(n) => n,
+        Answer::Pulse(kind) => kind as u8,
+        _ => 0,
     }
 }
 
-pub fn wide(x: u8) -> u32
-    ensures { result ≡ x }
-{
-    x as u32
-}
-
 // An answer with its count as a number.
+#[tactic(auto, unfolding(crate::specs::Answers::number_of))]
 pub fn number(a: Answered) -> u32
     ensures { result ≡ number_of a }
 {
-    let answer = a.answer;
-    65536 * wide(a.looked) + 256 * wide(word(answer)) + wide(detail(answer))
+    u32::from_be_bytes([0, a.looked, word(a.answer), detail(a.answer)])
+}
+
+// The number, or that of what is wrong.
+#[tactic(auto, unfolding(crate::specs::Answers::said_number))]
+pub fn said(number: Result<u32, Wrong>) -> u32
+    ensures { result ≡ said_number number }
+{
+    number.unwrap_or_else(u32::from)
 }

@@ -1,96 +1,93 @@
-// Whether a kind and its two numbers stand for a call, and that call. They are judged first and the call is made of them after, so
-// that the compiler can make one jump of both.
-ghost use Rattle.std.specs.Prelude.{◌≡◌, ◌%◌};
-ghost use Rattle.encoding.specs.Calls.{address_of};
-ghost use Rattle.encoding.specs.Code.{known_of, judged_of, sync_kind_of, fault_kind_of, meant_of};
+// The call that a kind and its two numbers stand for. SyncKind and Fault are of another crate, which alone may write a TryFrom for them: here
+// they are made by functions.
+#![tactic(auto, unfolding(crate::specs::Calls::byte_of, crate::specs::Calls::address_of, crate::specs::Calls::sync_of, crate::specs::Calls::verdict_of, crate::specs::Calls::fault_of, crate::specs::Calls::call_of, crate::specs::Code::sized_of))]
 
-use crate::{SIZE, UNKNOWN, WRONG_SIZE};
+ghost use Rattle.std.specs.Prelude.{◌≡◌};
+ghost use Rattle.encoding.specs.Calls.{byte_of, address_of, sync_of, verdict_of, fault_of, call_of};
+ghost use Rattle.encoding.specs.Code.{sized_of, asked_of};
+
+use crate::{SIZE, Wrong};
 use controller::Call;
 use rules::{Fault, SyncKind};
 
-// Whether a kind and its numbers stand for a call. Numbers that the kind doesn't use are not looked at.
-#[tactic(auto, unfolding(crate::specs::Code::known_of))]
-fn known(kind: u32, first: u32, second: u32) -> bool
-    ensures { result ≡ known_of kind first second }
+fn byte(n: u32) -> Option<u8>
+    ensures { result ≡ byte_of n }
 {
-    match kind {
-        0 => true,
-        1 => true,
-        2 => second < 256,
-        3 => first < 2,
-        4 => true,
-        5 => first < 256,
-        6 => first < 2,
-        7 => first < 4,
-        8 => true,
-        _ => false,
-    }
-}
-
-// The same behind the size: 0, or the answer where there is no call.
-pub fn judged(size: usize, kind: u32, first: u32, second: u32) -> u32
-    ensures { result ≡ judged_of size kind first second }
-{
-    if size != SIZE {
-        return WRONG_SIZE;
-    }
-    if known(kind, first, second) {
-        0
-    } else {
-        UNKNOWN
-    }
+    u8::try_from(n).ok()
 }
 
 // An address above 255 is refused as 255 is.
 fn address(first: u32) -> u8
     ensures { result ≡ address_of first }
 {
-    if first < 256 { first as u8 } else { 255 }
+    byte(first).unwrap_or(u8::MAX)
 }
 
-// The low byte: a cast by itself may lose nothing.
-fn low_byte(n: u32) -> u8
-    ensures { result ≡ n % 256 }
-{
-    (n % 256) as u8
-}
-
-fn sync_kind(first: u32) -> SyncKind
-    ensures { result ≡ sync_kind_of first }
-{
-    if first == 0 {
-        SyncKind::Normal
-    } else {
-        SyncKind::Alarm
-    }
-}
-
-#[tactic(auto, unfolding(crate::specs::Code::fault_kind_of))]
-fn fault_kind(first: u32) -> Fault
-    ensures { result ≡ fault_kind_of first }
+fn sync_kind(first: u32) -> Option<SyncKind>
+    ensures { result ≡ sync_of first }
 {
     match first {
-        0 => Fault::Early,
-        1 => Fault::Lost,
-        2 => Fault::Illegal,
-        _ => Fault::Mismatch,
+        0 => Some(SyncKind::Normal),
+        1 => Some(SyncKind::Alarm),
+        _ => None,
     }
 }
 
-// The call of a kind. Nothing is judged again, so numbers that stand for no call have one here too.
-#[tactic(auto, unfolding(crate::specs::Code::meant_of))]
-pub fn meant(kind: u32, first: u32, second: u32) -> Call
-    ensures { result ≡ meant_of kind first second }
+// A bool, as Call::Frame takes it: no type of its own to convert to.
+fn verdict(first: u32) -> Option<bool>
+    ensures { result ≡ verdict_of first }
+{
+    match first {
+        0 => Some(false),
+        1 => Some(true),
+        _ => None,
+    }
+}
+
+fn fault_kind(first: u32) -> Option<Fault>
+    ensures { result ≡ fault_of first }
+{
+    match first {
+        0 => Some(Fault::Early),
+        1 => Some(Fault::Lost),
+        2 => Some(Fault::Illegal),
+        3 => Some(Fault::Mismatch),
+        _ => None,
+    }
+}
+
+// Numbers that the kind doesn't use are not looked at.
+fn known(kind: u32, first: u32, second: u32) -> Option<Call>
+    ensures { result ≡ call_of kind first second }
 {
     match kind {
-        0 => Call::Reset,
-        1 => Call::Read(address(first)),
-        2 => Call::Write(address(first), low_byte(second)),
-        3 => Call::Sync(sync_kind(first)),
-        4 => Call::SyncDue,
-        5 => Call::Slot(low_byte(first)),
-        6 => Call::Frame(first != 0),
-        7 => Call::Fault(fault_kind(first)),
-        _ => Call::Timeout,
+        0 => Some(Call::Reset),
+        1 => Some(Call::Read(address(first))),
+        2 => Some(Call::Write(address(first), byte(second)?)),
+        3 => Some(Call::Sync(sync_kind(first)?)),
+        4 => Some(Call::SyncDue),
+        5 => Some(Call::Slot(byte(first)?)),
+        6 => Some(Call::Frame(verdict(first)?)),
+        7 => Some(Call::Fault(fault_kind(first)?)),
+        8 => Some(Call::Timeout),
+        _ => None,
     }
+}
+
+// The caller's record has the right size.
+pub fn sized(size: usize) -> Result<(), Wrong>
+    ensures { result ≡ sized_of size }
+{
+    if size == SIZE {
+        Ok(())
+    } else {
+        Err(Wrong::Size)
+    }
+}
+
+// The call of a kind and its two numbers.
+pub fn asked(kind: u32, first: u32, second: u32) -> Result<Call, Wrong>
+    ensures { result ≡ asked_of kind first second }
+{
+    known(kind, first, second).ok_or(Wrong::Unknown)
 }

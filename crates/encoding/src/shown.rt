@@ -1,116 +1,91 @@
 // What is shown of a record where no step is made: the bytes that a buffer holds, and those of a frame that waits. They are written over
 // the first of a room; where the answer is another, the room stays as it is.
-ghost use Rattle.std.specs.Prelude.{◌≡◌};
-ghost use Rattle.rules.specs.Waiting.{waits_for};
-ghost use Rattle.encoding.specs.Shown.{plain, shown_bytes, buffer_shown, held_shown, waiting_shown};
-ghost use Rattle.encoding.specs.CodeShown.{oldest_of, newer_of};
+#![tactic(auto, unfolding(masks::specs::Pick::pick, contents::specs::Bytes::fill_room, crate::specs::Answers::wrong_number, crate::specs::Answers::said_number, crate::specs::Shown::plain, crate::specs::Shown::shown_bytes, crate::specs::Shown::buffer_shown, crate::specs::Shown::taken_places, crate::specs::Shown::place_of, crate::specs::Shown::held_shown, crate::specs::Shown::waiting_shown, crate::specs::Code::place_by, rules::specs::Refusals::refusal_number))]
 
+ghost use Rattle.std.specs.Prelude.{◌≡◌, ◌<◌, not, ltb, IfOk};
+ghost use Rattle.std.specs.Result.{is_ok};
+ghost use Rattle.std.specs.Option.{is_some};
+ghost use Rattle.std.specs.Bool.{then_some};
+ghost use Rattle.rules.specs.Waiting.{waits_for, is_free};
+ghost use Rattle.encoding.specs.Answers.{said_number};
+ghost use Rattle.encoding.specs.Shown.{plain, shown_bytes, buffer_shown, place_of, waiting_shown};
+ghost use Rattle.encoding.specs.Code.{place_by};
+
+use crate::Wrong;
 use crate::answers::number;
-use crate::{NO_FRAME, UNKNOWN};
 use controller::{Answered, Controller};
 use masks::NONE;
-use rules::{Answer, Places};
+use rules::{Answer, Control, Places, Refusal};
 
-// The number of an answer for which no buffer was examined.
-fn plain(a: Answer) -> u32
-    ensures { result ≡ plain a }
+// The number of an answer for which no buffer was examined. As crate controller's `unlooked`, which isn't public: that would be one promise
+// more for this line.
+fn plain(answer: Answer) -> u32
+    ensures { result ≡ plain answer }
 {
-    let answered = Answered {
-        answer: a,
-        looked: 0,
-    };
-    number(answered)
+    number(Answered { answer, looked: 0 })
 }
 
-// Writes the fourteen bytes over the first of the room and answers n.
-fn put(n: u32, b: [u8; 14], room: &mut [u8]) -> u32
-    ensures { (result ≡ (shown_bytes n (record { bytes = b }) room.old).answer) × (room.new ≡ (shown_bytes n (record { bytes = b }) room.old).room) }
+// Writes the fourteen bytes over the first of the room, for an answer that says so.
+fn put(answer: Answer, bytes: [u8; 14], room: &mut [u8]) -> u32
+    ensures { shown_bytes (plain answer) (record { bytes = bytes }) room.old ≡ record { answer = result; room = room.new } }
 {
     if room.len() < 14 {
-        return plain(Answer::Refused(12));
+        return plain(Answer::from(Refusal::RoomSize));
     }
-    let mut place = 0;
-    while place < 14 {
-        room[place] = b[place];
-        place += 1;
-    }
-    n
+    room[..14].copy_from_slice(&bytes);
+    plain(answer)
 }
 
 // What buffer n holds.
-pub fn buffer(c: Controller, n: u32, room: &mut [u8]) -> u32
-    ensures { (result ≡ (buffer_shown c n room.old).answer) × (room.new ≡ (buffer_shown c n room.old).room) }
+pub fn buffer(c: &Controller, n: u32, room: &mut [u8]) -> Result<u32, Wrong>
+    ensures shown { buffer_shown c.now n room.old ≡ record { answer = said_number result; room = room.new } }
+    ensures is_ok { is_ok result ≡ ltb n 16 }
 {
-    if n < 16 {
-        let i = n as usize;
-        let row = c.rows[i];
-        let b = row.bytes;
-        return put(plain(Answer::Ok), b, room);
-    }
-    UNKNOWN
+    let row = c.rows.get(n as usize).ok_or(Wrong::Unknown)?;
+    Ok(put(Answer::Ok, row.bytes, room))
 }
 
-// The place of the oldest frame that waits; 2 where none does.
-fn oldest(p: Places) -> usize
-    ensures { result ≡ oldest_of p }
-{
-    if p.swapped {
-        if NONE <= p.second {
-            return if NONE <= p.first { 2 } else { 0 };
-        }
-        return 1;
-    }
-    if NONE <= p.first {
-        return if NONE <= p.second { 2 } else { 1 };
-    }
-    0
-}
-
-// The place of the newer of two; 2 where fewer wait.
-fn newer(p: Places) -> usize
-    ensures { result ≡ newer_of p }
-{
-    if NONE <= p.first {
-        return 2;
-    }
-    if NONE <= p.second {
-        return 2;
-    }
-    if p.swapped { 0 } else { 1 }
-}
-
-// The buffer that the frame in a place waits for.
+// The buffer that the frame in a place waits for. A place is its index in the record's `held`. Functions and no methods: Places and Control
+// are of crate rules.
 fn waits_for(p: Places, place: usize) -> u8
     ensures { result ≡ waits_for p place }
 {
     if place == 0 { p.first } else { p.second }
 }
 
-// The frame in a place, from 2 on none.
-fn held(c: Controller, place: usize, room: &mut [u8]) -> u32
-    ensures { (result ≡ (held_shown c place room.old).answer) × (room.new ≡ (held_shown c place room.old).room) }
+// The place, if a frame waits in it.
+fn taken(c: Control, place: usize) -> Option<usize>
+    ensures { result ≡ then_some (not (is_free c place)) place }
 {
-    if place < 2 {
-        let control = c.control;
-        let p = control.places;
-        let image = c.held[place];
-        let b = image.bytes;
-        return put(plain(Answer::Waiting(waits_for(p, place))), b, room);
-    }
-    NO_FRAME
+    (waits_for(c.places, place) < NONE).then_some(place)
+}
+
+// The place of the k-th frame that waits, 0 the oldest.
+fn place(c: Control, k: u32) -> Result<usize, Wrong>
+    ensures place { result ≡ place_by c k }
+    ensures below { IfOk result (λ j. j < 2) }
+{
+    let first = usize::from(c.places.swapped);
+    let second = 1 - first;
+    let place = match k {
+        0 => taken(c, first).or(taken(c, second)),
+        1 => taken(c, first).and(taken(c, second)),
+        _ => return Err(Wrong::Unknown),
+    };
+    place.ok_or(Wrong::NoFrame)
 }
 
 // The k-th frame that waits, 0 the oldest.
-pub fn waiting(c: Controller, k: u32, room: &mut [u8]) -> u32
-    ensures { (result ≡ (waiting_shown c k room.old).answer) × (room.new ≡ (waiting_shown c k room.old).room) }
+pub fn waiting(c: &Controller, k: u32, room: &mut [u8]) -> Result<u32, Wrong>
+    ensures shown { waiting_shown c.now k room.old ≡ record { answer = said_number result; room = room.new } }
+    ensures is_ok { is_ok result ≡ is_some (place_of c.now.control k) }
 {
     let control = c.control;
-    let p = control.places;
-    if k == 0 {
-        return held(c, oldest(p), room);
-    }
-    if k == 1 {
-        return held(c, newer(p), room);
-    }
-    UNKNOWN
+    let place = place(control, k)?;
+    let image = c.held[place];
+    Ok(put(
+        Answer::Waiting(waits_for(control.places, place)),
+        image.bytes,
+        room,
+    ))
 }

@@ -73,9 +73,9 @@ not-not : (t : Bool) → t ≡ not (not t)
 not-not true = refl
 not-not false = refl
 
-pub matches-test : (f : Filter) (i : ℕ) → f.mask < 256 → eqb (differs f i) 0 ≡ matches f i
+pub matches_test : (f : Filter) (i : ℕ) → f.mask < 256 → eqb (differs f i) 0 ≡ matches f i
 unfolding matches
-matches-test f i hm =
+matches_test f i hm =
     let low : differs f i < 256 = omega (arith, and_le_r (bit_xor i f.pattern) (255 - f.mask)) in
     not-not (eqb (differs f i) 0)
     ∙ ap not (some-bit (differs f i) (omega arith) ∙ some-low (differs f i) 8 low)

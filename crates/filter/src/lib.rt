@@ -15,6 +15,7 @@ pub struct Filter {
 impl Filter {
     // Whether the filter matches an identifier: the two agree wherever the mask bit is 0.
     // Mask 0 matches the pattern alone, mask $FF every identifier.
+    #[tactic(auto, using(crate::proofs::Laws::matches_test))]
     pub fn matches(self, ident: u8) -> bool
         ensures { result ≡ matches self ident }
     {
@@ -22,6 +23,7 @@ impl Filter {
     }
 
     // Whether the filter, as the rejection pair, rejects an identifier: mask $FF rejects none, though it matches all (W2).
+    #[tactic(auto, unfolding(crate::specs::Match::rejects))]
     pub fn rejects(self, ident: u8) -> bool
         ensures { result ≡ rejects self ident }
     {

@@ -1,13 +1,14 @@
 -- The C interface: what each exported function answers and leaves, for every size, kind, number, frame and room.
-use Rattle.std.specs.Prelude.{ℕ, List, eqb}
+use Rattle.std.specs.Prelude.{ℕ, List, eqb, Option, Some, None}
 use Rattle.masks.specs.Pick.{pick}
 use Rattle.rules.specs.Flags.{lines_of}
 use Rattle.controller.specs.declared.Controller.{Controller}
+use Rattle.controller.specs.declared.Call.{Call}
 use Rattle.controller.specs.Carry.{reset_state}
 use Rattle.controller.specs.Session.{step_of}
 use Rattle.controller.specs.Calls.{accepted, answered_of, step_for, room_for}
 use Rattle.encoding.specs.Answers.{number_of, unknown, wrong_size}
-use Rattle.encoding.specs.Calls.{record_size, Asked, Known, Unknown, call_of}
+use Rattle.encoding.specs.Calls.{record_size, call_of}
 use Rattle.encoding.specs.Shown.{Shown, kept, buffer_shown, waiting_shown}
 
 -- version 0.6.0: 10000 times the first number, 100 times the second, and the third
@@ -24,14 +25,14 @@ abbrev pub unchanged : Controller → List ℕ → ℕ → Effect
 unchanged c room n = record { next = c; answer = n; room = room }
 
 -- a step of document 01 with the whole frame slice and room that the caller passed, or nothing
-unfoldable pub effect_of : Controller → Asked → List ℕ → List ℕ → Effect
-effect_of c (Known call) frame room =
+unfoldable pub effect_of : Controller → Option Call → List ℕ → List ℕ → Effect
+effect_of c (Some call) frame room =
     record {
       next = (step_of c (step_for call frame room)).next;
       answer = number_of (answered_of (step_of c (step_for call frame room)));
       room = room_for c call room;
     }
-effect_of c Unknown frame room = unchanged c room unknown
+effect_of c None frame room = unchanged c room unknown
 
 -- `hevrukan_step`: the size is looked at first, then the kind and its numbers, then document 01's rules
 unfoldable pub step_effect : Controller → ℕ → ℕ → ℕ → ℕ → List ℕ → List ℕ → Effect

@@ -5,7 +5,6 @@ use Rattle.std.proofs.Common.{ap, ◌∙◌}
 use Rattle.masks.specs.PickLaws.{pick_true, pick-false, by-test}
 use Rattle.controller.specs.declared.Controller.{Controller}
 use Rattle.controller.specs.declared.Done.{Done}
-use Rattle.controller.specs.Calls.{answer_in}
 use Rattle.controller.specs.CodeLaws.{reset-step}
 use Rattle.encoding.specs.Answers.{number_of}
 use Rattle.encoding.specs.Calls.{record_size, call_of}
@@ -27,5 +26,5 @@ module _ (c : Controller) (size first second : ℕ) (frame room : List ℕ) wher
   unfolding reset_answer step_effect effect_of call_of
   reset-answer =
       by-test (eqb size record_size)
-      (λ e. pick_true _ _ _ e ∙ sym (ap (λ (d : Done). number_of (answer_in d)) (reset-step c)) ∙ sym (ap (λ (x : Effect). x.answer) (pick_true _ _ _ e)))
+      (λ e. pick_true _ _ _ e ∙ sym (ap (λ (d : Done). number_of d.answered) (reset-step c)) ∙ sym (ap (λ (x : Effect). x.answer) (pick_true _ _ _ e)))
       (λ e. pick-false _ _ _ e ∙ sym (ap (λ (x : Effect). x.answer) (pick-false _ _ _ e)))

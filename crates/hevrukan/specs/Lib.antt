@@ -2,4 +2,3 @@
 pub mod Interface
 -- nothing to believe: laws, and the code's own definitions
 pub mod Laws
-pub mod CodeLaws

@@ -7,11 +7,9 @@ ghost use Rattle.std.specs.Prelude.{◌≡◌, ◌≤◌, length};
 ghost use Rattle.rules.specs.Steps.Step.{frame as frame_step, write as write_step};
 ghost use Rattle.controller.specs.Session.{step_of};
 ghost use Rattle.controller.specs.Calls.{answered_of, step_for, room_for};
-ghost use Rattle.controller.specs.Code.{changed};
 
-use contents::Contents;
-use controller::{Answered, Call, Change, Controller, changes, events, registers};
-use masks::NONE;
+use controller::changes::{accepted, carry};
+use controller::{Answered, Call, Controller, events, registers};
 
 // The record as it stands. A proof knows how many rows a value has, and not how many lie behind a reference whose rows nobody reads.
 fn whole(c: Controller) -> Controller
@@ -19,24 +17,6 @@ fn whole(c: Controller) -> Controller
     ensures rows { length c.rows ≡ 16 }
 {
     c
-}
-
-// The change carried out: the control state, and the one buffer or waiting place whose bytes change. The control state first: what the
-// compiler sees to be there already, since nothing was stored after it was read, is not written back.
-fn carry(c: &mut Controller, x: Change) -> Answered
-    ensures { (c.new ≡ (changed c.old x).next) × (result ≡ x.answered) }
-{
-    c.control = x.control;
-    if x.buffer < NONE {
-        let n = x.buffer as usize;
-        let bytes = x.bytes;
-        c.rows[n] = Contents { bytes };
-    } else if x.place < 2 {
-        let k = x.place as usize;
-        let bytes = x.bytes;
-        c.held[k] = Contents { bytes };
-    }
-    x.answered
 }
 
 // The step of a frame: none of its bytes is copied but to a buffer, whose length and data of before are not read.
@@ -90,7 +70,7 @@ pub fn step(c: &mut Controller, call: Call, f: &[u8], room: &mut [u8]) -> Answer
     match call {
         Call::Reset => {
             *c = Controller::after_reset();
-            changes::accepted()
+            accepted()
         }
         Call::Read(a) => {
             let d = c.control;

@@ -3,7 +3,7 @@ use Rattle.std.specs.Prelude.{◌≡◌, ℕ, ◌+◌, ◌<◌, Bool, true, fals
 use Rattle.std.proofs.Common.{sym, ◌∙◌, subst, arith, get_or-set_same, get_or-set_other}
 use Rattle.std.proofs.Math.Path.{ap}
 use mathlib.Core.List.{List, [], ◌∷◌}
-use Rattle.std.proofs.lemmas.Bool.{not-true}
+use Rattle.std.proofs.lemmas.Bool.{not-true, and_parts}
 use Rattle.masks.specs.PickLaws.{by-test}
 use Rattle.contents.specs.declared.Contents.{Contents}
 use Rattle.contents.specs.Bytes.{no_contents, image_of}
@@ -17,7 +17,6 @@ use Rattle.controller.specs.Session.{step_by, end_by, step_of, end_of}
 use Rattle.controller.specs.View.{view_of}
 use Rattle.controller.specs.CodeLaws.{step-plain}
 use Rattle.invariants.specs.Sound.{Sound}
-use Rattle.invariants.specs.TestLaws.{and_left, and_right}
 use Rattle.invariants.proofs.ReachableLaws.{next-sound, session-sound}
 use Rattle.invariants.proofs.StillWaitingLaws.{frame-begins, decide-fine}
 use Rattle.invariants.specs.Newest.{is_waited_for, newest, is_waiting_for, is_release, leaves_waiting, keeps_waiting}
@@ -81,10 +80,11 @@ module _ (n : ℕ) (small : n < 16) (b : Contents) where
       let ended = (step_of c e).next.control.mode.init in
       let released = is_release c.control n e in
       let newer = is_waiting_for n (step_of c e).answer in
-      let two = and_left (not ended && not released) (not newer) t in
+      let all = and_parts (not ended && not released) (not newer) t in
+      let two = and_parts (not ended) (not released) all.0 in
       subst (λ (o : Outcome). o.next.control.mode.init ≡ false → is_waiting_for n o.answer ≡ false → Waiting o.next n b) (sym (step-plain c e))
-      (carried-stays c e w (not-true released (and_right (not ended) (not released) two)))
-      (not-true ended (and_left (not ended) (not released) two)) (not-true newer (and_right (not ended && not released) (not newer) t))
+      (carried-stays c e w (not-true released two.1))
+      (not-true ended two.0) (not-true newer all.1)
 
   pub session-stays : (c : Controller) (es : List Step) → Waiting c n b → keeps_waiting c n es ≡ true → Waiting (end_of c es) n b
   unfolding keeps_waiting end_of end_by step_of
@@ -92,7 +92,7 @@ module _ (n : ℕ) (small : n < 16) (b : Contents) where
   session-stays c (e ∷ es) w t =
       let here = leaves_waiting c n e in
       let rest = keeps_waiting (step_of c e).next n es in
-      session-stays (step_of c e).next es (step_stays c e w (and_left here rest t)) (and_right here rest t)
+      let both = and_parts here rest t in session-stays (step_of c e).next es (step_stays c e w both.0) both.1
 
 -- the record at its end is sound
 pub sound-after : (c : Controller) → Sound (view_of c) → (e : Step) (es : List Step) → Sound (view_of (end_of (step_of c e).next es))

@@ -9,6 +9,7 @@ use mathlib.Core.List.{List, [], ◌∷◌}
 use native.Mathlib.Omega.{arith}
 use borrow.Author.Tests.{eq-eqb, ne_eqb, eqb-true, ltb-true, leb-true}
 use Rattle.std.proofs.Math.Dec.{eqb}
+use Rattle.std.proofs.lemmas.Bool.{or_left, or_right}
 use Rattle.masks.specs.Pick.{pick}
 use Rattle.masks.specs.PickLaws.{pick-false, pick-keeps, by-test}
 use Rattle.contents.specs.declared.Contents.{Contents}
@@ -26,7 +27,7 @@ use Rattle.rules.specs.Steps.{Step, reset, read, write, sync, sync_due, slot, fr
 use Rattle.rules.specs.Plan.{Move, hold, Plan}
 use Rattle.rules.specs.Rules.{on_bus, act, decide}
 use Rattle.controller.specs.Carry.{row_at, hold_all}
-use Rattle.invariants.specs.TestLaws.{impossible, and-rest, or_cases, or-by-left, or-by-right}
+use Rattle.invariants.specs.TestLaws.{impossible, and-rest, or_cases}
 use Rattle.invariants.specs.AcceptedLaws.{write-accepted, address-of}
 use Rattle.invariants.specs.StepLaws.{low-address}
 use Rattle.invariants.specs.Newest.{is_waited_for, is_release}
@@ -80,7 +81,7 @@ module _ (c : Control) (e : Step) (rows held : List Contents) (n : ℕ) (small :
       let u : eqb p.second n ≡ true = or_cases (eqb p.first n) (eqb p.second n) waited (λ z. absurd (false≢true (sym t ∙ z))) (λ z. z) in
       let one = only-second p n t u in
       record {
-        waited-still = or-by-right (eqb m n) (eqb p.second n) u;
+        waited-still = or_right (eqb m n) (eqb p.second n) u;
         newest-same = pick-false (eqb m n) 0 1 d ∙ sym one;
         bytes_same = subst (λ (k : ℕ). row_at (hold_all e (hold 0 ∷ []) held) k ≡ row_at held k) (sym one)
             (get_or-set_other held 0 1 _ no_contents (λ z. omega arith));
@@ -95,7 +96,7 @@ module _ (c : Control) (e : Step) (rows held : List Contents) (n : ℕ) (small :
       let t : eqb p.first n ≡ true = or_cases (eqb p.first n) (eqb p.second n) waited (λ z. z) (λ z. absurd (false≢true (sym u ∙ z))) in
       let nought = only-first p n t u in
       record {
-        waited-still = or-by-left (eqb p.first n) (eqb m n) t;
+        waited-still = or_left (eqb p.first n) (eqb m n) t;
         newest-same = pick-false (eqb m n) 1 0 d ∙ sym nought;
         bytes_same = subst (λ (k : ℕ). row_at (hold_all e (hold 1 ∷ []) held) k ≡ row_at held k) (sym nought)
             (get_or-set_other held 1 0 _ no_contents (λ z. omega arith));

@@ -3,6 +3,7 @@
 use Rattle.std.specs.Prelude.{◌≡◌, refl, ℕ, ◌<◌, Bool, true, false, ◌&&◌, eqb, ltb, leb}
 use Rattle.std.proofs.Common.{sym, ap, ◌∙◌}
 use Rattle.std.proofs.Math.Bool.{not}
+use Rattle.std.proofs.lemmas.Bool.{and_parts}
 use borrow.Author.Tests.{eqb-true, ltb-true, leb-false, lt-ltb, not-true, not-false}
 use Rattle.masks.specs.Pick.{pick}
 use Rattle.masks.specs.PickLaws.{pick-false, pick-keeps}
@@ -18,7 +19,7 @@ use Rattle.rules.specs.Writes.{cfg_after, write_cfg, write_iena, clear_iflg, wri
 use Rattle.rules.specs.Refusals.{new_lock, not_oldest, no_lock_left}
 use Rattle.locks.specs.Pair.{is_full}
 use Rattle.invariants.specs.KeptLaws.{prepared}
-use Rattle.invariants.specs.TestLaws.{and_left, and_right, and-rest}
+use Rattle.invariants.specs.TestLaws.{and-rest}
 use Rattle.invariants.specs.BitLaws.{put_keeps, put-own, put-clear}
 
 -- ---- before LOCK
@@ -41,7 +42,7 @@ module _ (Q : Control → Type 0) (c : Control) (n v : ℕ) where
   unfolding write_iflg
   iflg-by b p f =
       pick-keeps Q (has v IFLG && not c.mode.init)
-      (λ t. let out = not-true c.mode.init (and_right (has v IFLG) (not c.mode.init) t) in
+      (λ t. let out = not-true c.mode.init (and_parts (has v IFLG) (not c.mode.init) t).1 in
       f (clear_iflg (with_buffers c b) n)
       (record {
         cfg-as = p.cfg-as;
@@ -69,13 +70,13 @@ module _ (Q : Control → Type 0) (c : Control) (n v : ℕ) where
       let normal = not c.mode.init in
       let full = is_full_transmit (with_buffers c b) n in
       pick-keeps Q (asked && normal && full)
-      (λ t. let out = not-true c.mode.init (and_right asked normal (and_left (asked && normal) full t)) in
+      (λ t. let out = not-true c.mode.init (and_parts asked normal (and_parts (asked && normal) full t).0).1 in
       f (abort (with_buffers c b) n)
       (record {
         cfg-as = p.cfg-as;
         iena-as = p.iena-as;
         armed-less = λ k l a. p.armed-less k l (put-clear b.armed n k l a);
-        iflg-new = abort-new b p (and_left (bit_of b.cfg n) (not (bit_of b.iflg n)) (and_right (asked && normal) full t));
+        iflg-new = abort-new b p (and_parts (bit_of b.cfg n) (not (bit_of b.iflg n)) (and_parts (asked && normal) full t).1).0;
         init-iflg = λ i. absurd (never_both c.mode.init i out);
         init-abtak = λ i. absurd (never_both c.mode.init i out);
         init-armed = λ i. absurd (never_both c.mode.init i out);
@@ -121,8 +122,9 @@ new-oldest c n v b p h o a u t r =
     let low = lt-ltb n size (leb-false size n (and-rest (not (bit_of b.cfg n)) (leb size n) r (ap not t))) in
     let free : is_locked c n ≡ false = u in
     let old = not-false (is_oldest c n) (simp (a, free, kind, low) at o) in
-    let some = ltb-true 0 c.fifo.count (and_left (ltb 0 c.fifo.count) (eqb n c.fifo.oldest) old) in
-    let first = eqb-true n c.fifo.oldest (and_right (ltb 0 c.fifo.count) (eqb n c.fifo.oldest) old) in
+    let both = and_parts (ltb 0 c.fifo.count) (eqb n c.fifo.oldest) old in
+    let some = ltb-true 0 c.fifo.count both.0 in
+    let first = eqb-true n c.fifo.oldest both.1 in
     (some, first)
 
 -- a new lock on a receive buffer finds the kind without a contender
@@ -133,6 +135,6 @@ unfolding no_lock_left new_lock is_locked pick
 new-room c n v b p h o a u t r =
     let size = c.config.fsiz in
     let kind : cfg_after c n v ≡ false = sym (put_same c.buffers.cfg n (cfg_after c n v) h) ∙ ap (λ (x : ℕ). bit_of x n) (sym p.cfg-as) ∙ t in
-    let high : leb size n ≡ true = and_right (not (bit_of b.cfg n)) (leb size n) r in
+    let high : leb size n ≡ true = (and_parts (not (bit_of b.cfg n)) (leb size n) r).1 in
     let free : is_locked c n ≡ false = u in
     simp (a, free, kind, high) at o

@@ -4,6 +4,7 @@ use Rattle.std.specs.Prelude.{◌≡◌, ℕ, ◌+◌, ◌-◌, ◌<◌, ◌≤�
 use Rattle.std.proofs.Common.{sym, ◌∙◌, arith}
 use Rattle.std.proofs.Math.Path.{ap, ap₂}
 use Rattle.std.proofs.Math.Bool.{true}
+use Rattle.std.proofs.lemmas.Bool.{and_from, and_parts, or_left, or_right}
 use borrow.Author.Tests.{ltb-true, ltb-false, leb-true, lt-ltb, le-leb}
 use Rattle.masks.specs.PickLaws.{pick-keeps, by-test}
 use Rattle.rules.specs.declared.Fifo.{Fifo}
@@ -15,7 +16,7 @@ use Rattle.rules.specs.Writes.{without_oldest}
 use Rattle.rules.specs.Bus.{with_entry}
 use Rattle.invariants.specs.Sound.{is_entry, RingSound}
 use Rattle.invariants.specs.ViewLaws.{receive-high}
-use Rattle.invariants.specs.TestLaws.{and_left, and_right, and_both, or-by-left, or-by-right, or_cases}
+use Rattle.invariants.specs.TestLaws.{or_cases}
 
 -- one of k places from o on among the first f, 0 following f − 1
 abbrev within : ℕ → ℕ → ℕ → ℕ → Bool
@@ -24,20 +25,21 @@ within f o k n = ltb n f && ((leb o n && ltb n (o + k)) || ltb (n + f) (o + k))
 module _ (f o k n : ℕ) where
   within_low : n < f → o ≤ n → n < o + k → within f o k n ≡ true
   within_low b l h =
-      and_both (ltb n f) _ (lt-ltb n f b)
-      (or-by-left (leb o n && ltb n (o + k)) _ (and_both (leb o n) _ (le-leb o n l) (lt-ltb n (o + k) h)))
+      and_from (ltb n f) _ (lt-ltb n f b)
+      (or_left (leb o n && ltb n (o + k)) _ (and_from (leb o n) _ (le-leb o n l) (lt-ltb n (o + k) h)))
 
   within-high : n < f → n + f < o + k → within f o k n ≡ true
-  within-high b h = and_both (ltb n f) _ (lt-ltb n f b) (or-by-right (leb o n && ltb n (o + k)) _ (lt-ltb (n + f) (o + k) h))
+  within-high b h = and_from (ltb n f) _ (lt-ltb n f b) (or_right (leb o n && ltb n (o + k)) _ (lt-ltb (n + f) (o + k) h))
 
   -- before the wrap, or after it
   within-cases : {G : Type 0} → within f o k n ≡ true → (n < f → o ≤ n → n < o + k → G) → (n < f → n + f < o + k → G) → G
   within-cases e low high =
       let a = leb o n && ltb n (o + k) in
       let z = ltb (n + f) (o + k) in
-      let b = ltb-true n f (and_left (ltb n f) (a || z) e) in
-      or_cases a z (and_right (ltb n f) (a || z) e)
-      (λ t. low b (leb-true o n (and_left (leb o n) (ltb n (o + k)) t)) (ltb-true n (o + k) (and_right (leb o n) (ltb n (o + k)) t)))
+      let within = and_parts (ltb n f) (a || z) e in
+      let b = ltb-true n f within.0 in
+      or_cases a z within.1
+      (λ t. let both = and_parts (leb o n) (ltb n (o + k)) t in low b (leb-true o n both.0) (ltb-true n (o + k) both.1))
       (λ t. high b (ltb-true (n + f) (o + k) t))
 
 module _ (f o k n : ℕ) where

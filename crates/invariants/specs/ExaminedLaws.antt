@@ -5,7 +5,7 @@ use Rattle.std.proofs.Common.{sym, ◌∙◌}
 use Rattle.std.proofs.Math.Path.{ap}
 use Prim.Native.Nat.{ℕ, zero, suc, ◌+◌, ◌-◌, ◌<◌, ◌≤◌, min}
 use Rattle.std.proofs.Math.Bool.{not, and-false}
-use Rattle.std.proofs.lemmas.Bool.{false≢true}
+use Rattle.std.proofs.lemmas.Bool.{false≢true, and_parts}
 use native.Mathlib.Omega.{arith}
 use borrow.Author.Tests.{ltb-true, lt-ltb, leb-true, leb-false, not-false}
 use Rattle.std.proofs.Math.Dec.{eqb, leb}
@@ -26,7 +26,6 @@ use Rattle.rules.specs.Steps.{Step, frame}
 use Rattle.rules.specs.Plan.{Reply, say, show, send, Plan, with_looked}
 use Rattle.rules.specs.Rules.{on_bus, act, decide}
 use Rattle.controller.specs.Carry.{answer_of}
-use Rattle.invariants.specs.TestLaws.{and_left, and_right}
 use Rattle.invariants.specs.ViewLaws.{receive-kind}
 
 -- how many of the first m numbers lie from a to n
@@ -36,7 +35,7 @@ interval-count a n zero = omega arith
 interval-count a n (suc m) =
     let rest = interval-count a n m in
     pick-keeps (λ (x : ℕ). count_of (λ k. leb a k && leb k n) m + x ≡ min (suc m) (n + 1) - a) (leb a m && leb m n)
-    (λ t. let lo = leb-true a m (and_left (leb a m) (leb m n) t) in let hi = leb-true m n (and_right (leb a m) (leb m n) t) in omega arith)
+    (λ t. let both = and_parts (leb a m) (leb m n) t in let lo = leb-true a m both.0 in let hi = leb-true m n both.1 in omega arith)
     (λ t. by-test (leb a m)
     (λ u. let z : leb m n ≡ false = ap (λ (x : Bool). x && leb m n) (sym u) ∙ t in let hi = leb-false m n z in omega arith)
     (λ u. let lo = leb-false a m u in omega arith))
@@ -47,7 +46,7 @@ module _ (c : Control) (n : ℕ) (lawful : is_lawful c ≡ true) (small : n < 16
 
   rises : rising (is_transmit c) 15 ≡ true
   unfolding is_lawful
-  rises = and_left (rising (is_transmit c) 15) _ lawful
+  rises = (and_parts (rising (is_transmit c) 15) _ lawful).0
 
   -- no transmit buffer is below a receive buffer
   below : (k : ℕ) → k ≤ n → is_transmit c k ≡ false

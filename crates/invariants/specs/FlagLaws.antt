@@ -4,13 +4,14 @@ use Rattle.std.proofs.Common.{sym, ap, ◌∙◌, subst, arith}
 use Rattle.std.proofs.Math.Bool.{and-true, and-false, or-false}
 use Rattle.std.specs.Int.Bits.{bit_and, bit_or}
 use Rattle.std.proofs.lemmas.Nat.{and_le_r, and_mask}
+use Rattle.std.proofs.lemmas.Bool.{and_parts}
 use Rattle.masks.specs.Pick.{pick}
 use Rattle.masks.specs.PickLaws.{pick-keeps, by-test}
 use Rattle.masks.specs.Bits.{bit_of}
 use Rattle.masks.specs.Laws.{bit-none, bit-and, bit-or, mask-ext, and-fits, or-fits}
 use Rattle.rules.specs.Registers.{with_flag}
 use Rattle.invariants.specs.Sound.{within}
-use Rattle.invariants.specs.TestLaws.{impossible, and_left, and_right, or_cases}
+use Rattle.invariants.specs.TestLaws.{impossible, or_cases}
 
 -- ---- no other bits than m
 
@@ -20,7 +21,7 @@ within-le m x e = subst (λ (y : ℕ). y ≤ m) e (and_le_r x m)
 
 within-bit : (m x k : ℕ) → within m x → bit_of x k ≡ true → bit_of m k ≡ true
 unfolding within
-within-bit m x k e t = and_right (bit_of x k) (bit_of m k) (sym (bit-and x m k) ∙ ap (λ (y : ℕ). bit_of y k) e ∙ t)
+within-bit m x k e t = (and_parts (bit_of x k) (bit_of m k) (sym (bit-and x m k) ∙ ap (λ (y : ℕ). bit_of y k) e ∙ t)).1
 
 pub bit-absent-in : (m x k : ℕ) → within m x → bit_of m k ≡ false → bit_of x k ≡ false
 bit-absent-in m x k e z = by-test (bit_of x k) (λ t. impossible (sym z ∙ within-bit m x k e t)) (λ t. t)
@@ -45,7 +46,7 @@ module _ (m : ℕ) (fits : m < 65536) where
   pub and-within : (x y : ℕ) → within m x → within m (bit_and x y)
   and-within x y p =
       within_by m (bit_and x y) (and-fits y (small x p))
-      (λ k t. within-bit m x k p (and_left (bit_of x k) (bit_of y k) (sym (bit-and x y k) ∙ t)))
+      (λ k t. within-bit m x k p (and_parts (bit_of x k) (bit_of y k) (sym (bit-and x y k) ∙ t)).0)
 
   -- nor than a mask n that has the bits of m
   pub within_more : (n x : ℕ) → within m x → within n m → within n x
@@ -55,7 +56,7 @@ module _ (m : ℕ) (fits : m < 65536) where
   pub cut-within : (x : ℕ) → within m (bit_and x m)
   cut-within x =
       within_by m (bit_and x m) (let h = and_le_r x m in omega arith)
-      (λ k t. and_right (bit_of x k) (bit_of m k) (sym (bit-and x m k) ∙ t))
+      (λ k t. (and_parts (bit_of x k) (bit_of m k) (sym (bit-and x m k) ∙ t)).1)
 
   pub flag-within : (t : Bool) (b v : ℕ) → within m b → within m v → within m (with_flag t b v)
   unfolding with_flag
@@ -67,8 +68,9 @@ module _ (m : ℕ) (fits : m < 65536) where
       mask-ext (bit_and x r) 0 (and-fits r (small x p)) (omega arith)
       (λ k l. by-test (bit_of (bit_and x r) k)
       (λ t. let both = sym (bit-and x r k) ∙ t in
-      let a = within-bit m x k p (and_left (bit_of x k) (bit_of r k) both) in
-      let b = and_right (bit_of x k) (bit_of r k) both in
+      let bits = and_parts (bit_of x k) (bit_of r k) both in
+      let a = within-bit m x k p bits.0 in
+      let b = bits.1 in
       let c : bit_of (bit_and m r) k ≡ true = bit-and m r k ∙ simp (a, b) in
       impossible (sym (ap (λ (y : ℕ). bit_of y k) z ∙ bit-none k) ∙ c))
       (λ t. t ∙ sym (bit-none k)))

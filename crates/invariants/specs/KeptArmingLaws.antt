@@ -3,6 +3,7 @@ use Rattle.std.specs.Prelude.{◌≡◌, ℕ, ◌<◌, false, ◌&&◌, List, eq
 use Rattle.std.proofs.Math.Path.{refl, sym}
 use Rattle.std.proofs.Common.{◌∙◌, subst, arith}
 use Rattle.std.proofs.Math.Bool.{true, not}
+use Rattle.std.proofs.lemmas.Bool.{and_parts}
 use borrow.Author.Tests.{not-true}
 use Rattle.masks.specs.PickLaws.{by-test}
 use Rattle.masks.specs.Bits.{bit_of}
@@ -26,7 +27,6 @@ use Rattle.rules.specs.Plan.{head_at}
 use Rattle.controller.specs.View.{View}
 use Rattle.invariants.specs.Sound.{Armed, ArmingSound, Sound}
 use Rattle.invariants.specs.KeptLaws.{at, put_head, flagged, reset_view, Kept}
-use Rattle.invariants.specs.TestLaws.{and_left, and_right}
 use Rattle.invariants.specs.ViewLaws.{lawful-low, receive-kind, found-receive}
 use Rattle.invariants.specs.LockLaws.{holder-locked}
 use Rattle.invariants.specs.ControlWriteLaws.{Prepared, prepared-kind, prepared-by}
@@ -94,13 +94,14 @@ module _ (w : View) (s : Sound w) where
             let free = not (is_locked c n) in
             let named = not (eqb (head_at w.heads n).ident 0) in
             let all : (full && free && named) ≡ true = sym (bit_mask (arms c w.heads) n b) ∙ a in
-            let both = and_left (full && free) named all in
-            let kind = and_left full free both in
+            let parts = and_parts (full && free) named all in
+            let both = and_parts full free parts.0 in
+            let kind = and_parts (is_transmit c n) (not (has_iflg c n)) both.0 in
             record {
-              transmit = and_left (is_transmit c n) (not (has_iflg c n)) kind;
-              full = not-true (has_iflg c n) (and_right (is_transmit c n) (not (has_iflg c n)) kind);
-              unlocked = not-true (is_locked c n) (and_right full free both);
-              named = not-true (eqb (head_at w.heads n).ident 0) (and_right (full && free) named all);
+              transmit = kind.0;
+              full = not-true (has_iflg c n) kind.1;
+              unlocked = not-true (is_locked c n) both.1;
+              named = not-true (eqb (head_at w.heads n).ident 0) parts.1;
               synced = refl;
             };
       }

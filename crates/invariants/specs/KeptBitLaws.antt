@@ -3,7 +3,7 @@
 use Rattle.std.specs.Prelude.{◌≡◌, refl, ℕ, ◌<◌, Bool, true, false, ◌&&◌, ◌||◌, ltb, leb}
 use Rattle.std.proofs.Common.{sym, ap, ◌∙◌, subst, arith, le-ltb, leb-true}
 use Rattle.std.proofs.Math.Bool.{not}
-use Rattle.std.proofs.lemmas.Bool.{not-true}
+use Rattle.std.proofs.lemmas.Bool.{not-true, and_parts}
 use Rattle.masks.specs.Pick.{pick}
 use Rattle.masks.specs.PickLaws.{pick-keeps, by-test}
 use Rattle.masks.specs.Bits.{bit_of, mask_of, put_bit, highest}
@@ -21,7 +21,7 @@ use Rattle.rules.specs.Plan.{head_at}
 use Rattle.controller.specs.View.{View}
 use Rattle.invariants.specs.Sound.{Sound, BitsSound, Idle}
 use Rattle.invariants.specs.KeptLaws.{at, Kept, prepared, reset_view}
-use Rattle.invariants.specs.TestLaws.{impossible, and_left, and_right}
+use Rattle.invariants.specs.TestLaws.{impossible}
 use Rattle.invariants.specs.BitLaws.{put_keeps}
 use Rattle.invariants.specs.ViewLaws.{found-receive, sent-armed}
 use Rattle.invariants.specs.ControlWriteLaws.{cfg-stays}
@@ -65,8 +65,8 @@ transmit-outside cfg fsiz n t = ap (λ (x : Bool). not x && ltb n fsiz) t
 -- nor is a dedicated receive buffer
 receive_outside : (cfg fsiz n : ℕ) → (not (bit_of cfg n) && leb fsiz n) ≡ true → in_fifo cfg fsiz n ≡ false
 receive_outside cfg fsiz n r =
-    let high : ltb n fsiz ≡ false = le-ltb n fsiz (leb-true fsiz n (and_right (not (bit_of cfg n)) (leb fsiz n) r)) in
-    rw (high, and_left (not (bit_of cfg n)) (leb fsiz n) r)
+    let high : ltb n fsiz ≡ false = le-ltb n fsiz (leb-true fsiz n (and_parts (not (bit_of cfg n)) (leb fsiz n) r).1) in
+    rw (high, (and_parts (not (bit_of cfg n)) (leb fsiz n) r).0)
 
 module _ {cfg fsiz iflg abtak : ℕ} (b : Bits cfg fsiz iflg abtak) where
   -- the same layout with another mask for CFG
@@ -126,7 +126,7 @@ module _ {cfg fsiz iflg abtak : ℕ} (b : Bits cfg fsiz iflg abtak) where
         abtak-transmit = b.abtak-transmit;
         abtak-iflg = λ n h t. bit_mask (λ n. bit_of cfg n || bit_of iflg n) n h ∙ ap (λ (x : Bool). x || bit_of iflg n) (b.abtak-transmit n h t);
         fifo-iflg = λ n h t. bit_mask (λ n. bit_of cfg n || bit_of iflg n) n h
-            ∙ rw (not-true (bit_of cfg n) (and_left (not (bit_of cfg n)) (ltb n fsiz) t)) (b.fifo-iflg n h t);
+            ∙ rw (not-true (bit_of cfg n) (and_parts (not (bit_of cfg n)) (ltb n fsiz) t).0) (b.fifo-iflg n h t);
       }
 
 -- ---- a control write, part by part
@@ -156,7 +156,7 @@ module _ (c : Control) (n v : ℕ) (b : BitsOf c) where
   unfolding write_abtrq
   abtrq-bits =
       pick-keeps BitsOf (has v ABTRQ && not c.mode.init && is_full_transmit c n)
-      (λ p. abort-set b n (and_left (is_transmit c n) (not (has_iflg c n)) (and_right (has v ABTRQ && not c.mode.init) (is_full_transmit c n) p)))
+      (λ p. abort-set b n (and_parts (is_transmit c n) (not (has_iflg c n)) (and_parts (has v ABTRQ && not c.mode.init) (is_full_transmit c n) p).1).0)
       (λ p. b)
 
 prepared-bits : (c : Control) (n v : ℕ) → BitsOf c → (c.mode.init ≡ true → Idle c) → BitsOf (prepared c n v)

@@ -2,6 +2,7 @@
 -- or empties it.
 use Rattle.std.specs.Prelude.{◌≡◌, refl, ℕ, ◌+◌, ◌-◌, ◌<◌, ◌≤◌, false, ◌&&◌, eqb, ltb}
 use Rattle.std.proofs.Common.{sym, subst, arith, ltb-true, ltb-false}
+use Rattle.std.proofs.lemmas.Bool.{and_parts}
 use Rattle.masks.specs.PickLaws.{pick-keeps, by-test}
 use Rattle.rules.specs.declared.Fault.{Fault}
 use Rattle.rules.specs.declared.Fault.TheVariants.{Early, Lost, Illegal, Mismatch}
@@ -15,7 +16,7 @@ use Rattle.rules.specs.Bus.{synced, timed_out, faulted, raise_last}
 use Rattle.controller.specs.View.{View}
 use Rattle.invariants.specs.Sound.{RingSound, FifoSound, Sound}
 use Rattle.invariants.specs.KeptLaws.{Kept, at, reset_view}
-use Rattle.invariants.specs.TestLaws.{impossible, and_left}
+use Rattle.invariants.specs.TestLaws.{impossible}
 use Rattle.invariants.specs.ControlWriteLaws.{prepared-by}
 
 -- ---- the ring
@@ -120,7 +121,7 @@ enter-ring c r = empty-ring c.config.fsiz r.size-le
 release-ring : (c : Control) (n : ℕ) → RingSound c.config.fsiz c.fifo → RingSound c.config.fsiz (release_fifo c n)
 unfolding release_fifo
 release-ring c n r = pick-keeps (RingSound c.config.fsiz) (c.fifo.locked && eqb n c.fifo.oldest)
-    (λ t. drop-ring c.config.fsiz c.fifo r (r.lock-entry (and_left c.fifo.locked (eqb n c.fifo.oldest) t)))
+    (λ t. drop-ring c.config.fsiz c.fifo r (r.lock-entry (and_parts c.fifo.locked (eqb n c.fifo.oldest) t).0))
     (λ t. r)
 
 -- ---- every rule

@@ -1,6 +1,7 @@
 -- Towards proofs/KeptLockLaws.antt: what leaves the locks sound, takes or releases one, and that the kind of a locked buffer stays.
 use Rattle.std.specs.Prelude.{◌≡◌, refl, ℕ, ◌<◌, ◌≤◌, Bool, true, false, ◌&&◌, not, List, eqb, ltb, leb}
 use Rattle.std.proofs.Common.{sym, ap, ◌∙◌, subst, arith}
+use Rattle.std.proofs.lemmas.Bool.{and_from, and_parts, or_left, or_parts, or_right}
 use borrow.Author.Tests.{eqb-false, ltb-true, ltb-false, eq-eqb, le-ltb, le-leb}
 use Rattle.masks.specs.PickLaws.{pick-keeps}
 use Rattle.masks.specs.Bits.{bit_of, some_of}
@@ -19,7 +20,7 @@ use Rattle.rules.specs.Refusals.{moved_by_fsiz, moved_by_cfg}
 use Rattle.controller.specs.View.{View}
 use Rattle.invariants.specs.Sound.{PairSound, LocksSound}
 use Rattle.invariants.specs.KeptLaws.{at, reset_view}
-use Rattle.invariants.specs.TestLaws.{and_left, and_both, and-rest, or_left, or-by-left, or-by-right, beq_same}
+use Rattle.invariants.specs.TestLaws.{and-rest, beq_same}
 use Rattle.invariants.specs.BitLaws.{put_keeps}
 use Rattle.invariants.specs.ViewLaws.{receive-high}
 use Rattle.invariants.specs.LockLaws.{receive-locked, transmit-locked}
@@ -50,7 +51,7 @@ module _ (kind : ℕ → Bool) (l : Locks) (n : ℕ) (s : PairSound kind l) wher
         holder-kind = s.holder-kind;
         contender-kind = λ b. k;
         contender-held = λ b. ltb-true l.holder 16 t;
-        apart = λ b e. eqb-false n l.holder (or_left (eqb n l.holder) (eqb n l.contender) free) (sym e);
+        apart = λ b e. eqb-false n l.holder (or_parts (eqb n l.holder) (eqb n l.contender) free).0 (sym e);
       })
       (λ t. record {
         holder-le = omega arith;
@@ -79,9 +80,9 @@ kinds-stay kind after l stay s =
       holder-le = s.holder-le;
       contender-le = s.contender-le;
       holder-kind = λ h.
-          stay l.holder h (or-by-left (eqb l.holder l.holder) _ (eq-eqb l.holder l.holder refl)) (s.holder-kind h);
+          stay l.holder h (or_left (eqb l.holder l.holder) _ (eq-eqb l.holder l.holder refl)) (s.holder-kind h);
       contender-kind = λ h.
-          stay l.contender h (or-by-right (eqb l.contender l.holder) _ (eq-eqb l.contender l.contender refl))
+          stay l.contender h (or_right (eqb l.contender l.holder) _ (eq-eqb l.contender l.contender refl))
           (s.contender-kind h);
       contender-held = s.contender-held;
       apart = s.apart;
@@ -101,12 +102,12 @@ receive-stays : (c : Control) (size m : ℕ) → moved_by_fsiz c size m ≡ fals
     is_receive (with_config c (with_fsiz c.config size)) m ≡ true
 unfolding moved_by_fsiz
 receive-stays c size m unmoved k e =
-    let plain = and_left (not (is_transmit c m)) _ e in
+    let plain = (and_parts (not (is_transmit c m)) _ e).0 in
     let above = receive-high c m e in
     let place =
     beq_same (ltb m size) (ltb m c.config.fsiz)
-    (and-rest (is_locked c m && not (is_transmit c m)) _ unmoved (and_both (is_locked c m) _ k plain)) in
-    and_both (not (is_transmit c m)) _ plain (le-leb size m (ltb-false m size (place ∙ le-ltb m c.config.fsiz above)))
+    (and-rest (is_locked c m && not (is_transmit c m)) _ unmoved (and_from (is_locked c m) _ k plain)) in
+    and_from (not (is_transmit c m)) _ plain (le-leb size m (ltb-false m size (place ∙ le-ltb m c.config.fsiz above)))
 
 pub resize-keeps : (w : View) (size : ℕ) → some_of (moved_by_fsiz w.control size) 16 ≡ false → LocksSound w →
     LocksSound (at w (with_config w.control (with_fsiz w.control.config size)))

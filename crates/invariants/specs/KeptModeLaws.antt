@@ -5,6 +5,7 @@ use Rattle.std.proofs.Math.Path.{refl}
 use Rattle.std.proofs.Common.{sym, ap, ◌∙◌, arith}
 use Rattle.std.proofs.Math.Dec.{eqb}
 use Rattle.std.specs.Int.Bits.{bit_or}
+use Rattle.std.proofs.lemmas.Bool.{and_parts}
 use Rattle.masks.specs.PickLaws.{pick-keeps}
 use Rattle.rules.specs.declared.Fault.{Fault}
 use Rattle.rules.specs.declared.Fault.TheVariants.{Early, Lost, Illegal, Mismatch}
@@ -22,7 +23,7 @@ use Rattle.controller.specs.View.{View}
 use Rattle.invariants.specs.Sound.{Sound, ModeSound}
 use Rattle.invariants.specs.ModeLaws.{remembered, forgotten, raised, RestingAt, resting, awake, entered, events-modes}
 use Rattle.invariants.specs.KeptLaws.{at, reset_view}
-use Rattle.invariants.specs.TestLaws.{impossible, and_left}
+use Rattle.invariants.specs.TestLaws.{impossible}
 
 module _ (w : View) (c : Control) (n : ℕ) (m : ModeSound (at w c)) where
   -- and the FIFO is empty, so not locked
@@ -30,7 +31,7 @@ module _ (w : View) (c : Control) (n : ℕ) (m : ModeSound (at w c)) where
   unfolding release_fifo
   released-empty e =
       pick-keeps (λ (q : Fifo). q ≡ empty_fifo) (c.fifo.locked && eqb n c.fifo.oldest)
-      (λ p. impossible (sym (ap (λ (q : Fifo). q.locked) e) ∙ and_left c.fifo.locked (eqb n c.fifo.oldest) p)) (λ p. e)
+      (λ p. impossible (sym (ap (λ (q : Fifo). q.locked) e) ∙ (and_parts c.fifo.locked (eqb n c.fifo.oldest) p).0)) (λ p. e)
 
 -- SLPRQ off
 pub cancel-modes : (w : View) → ModeSound w → ModeSound (at w (cancel w.control))

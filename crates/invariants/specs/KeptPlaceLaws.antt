@@ -9,6 +9,7 @@ use borrow.Author.Tests.{eqb-true, eqb-false, ltb-false, lt-leb}
 use Rattle.std.proofs.Math.ListN.{set, length-set}
 use Rattle.std.proofs.Math.Seq.{get_or-set_same}
 use Rattle.std.proofs.Math.Dec.{eqb, leb}
+use Rattle.std.proofs.lemmas.Bool.{and_parts, or_left, or_right}
 use Rattle.masks.specs.PickLaws.{pick-keeps, by-test}
 use Rattle.masks.specs.Bits.{bit_of}
 use Rattle.masks.specs.SearchLaws.{never_both, lowest-ext}
@@ -28,7 +29,7 @@ use Rattle.rules.specs.Plan.{head_at}
 use Rattle.controller.specs.View.{View}
 use Rattle.invariants.specs.Sound.{Waits, PlacesSound, Sound}
 use Rattle.invariants.specs.KeptLaws.{at, put, flagged, reset_view}
-use Rattle.invariants.specs.TestLaws.{and_left, and_right, and-rest, or_cases, or-by-left, or-by-right}
+use Rattle.invariants.specs.TestLaws.{and-rest, or_cases}
 use Rattle.invariants.specs.ViewLaws.{head-other, head-cases, receive-kind, receive-high, found-receive, found-ident}
 use Rattle.invariants.specs.ControlWriteLaws.{Prepared, prepared-kind}
 
@@ -42,10 +43,10 @@ module _ (l : Locks) (n m : ℕ) (held : in_pair l m ≡ true) where
       let h = eqb m l.holder in
       let d = eqb m l.contender in
       pick-keeps (λ (x : Locks). in_pair x m ≡ true) (has_holder l)
-      (λ t. or_cases h d held (or-by-left h (eqb m n))
+      (λ t. or_cases h d held (or_left h (eqb m n))
       (λ e. absurd (let q = ltb-false l.contender 16 (and-rest (has_holder l) _ room t) in let z = eqb-true m l.contender e in omega arith)))
       (λ t. let q = ltb-false l.holder 16 t in
-      or_cases h d held (λ e. absurd (let z = eqb-true m l.holder e in omega arith)) (or-by-right (eqb m n) d))
+      or_cases h d held (λ e. absurd (let z = eqb-true m l.holder e in omega arith)) (or_right (eqb m n) d))
 
   -- a release keeps the others
   release-holds : (m ≡ n → ⊥) → in_pair (release_lock l n) m ≡ true
@@ -54,9 +55,9 @@ module _ (l : Locks) (n m : ℕ) (held : in_pair l m ≡ true) where
       let h = eqb m l.holder in
       let d = eqb m l.contender in
       pick-keeps (λ (x : Locks). in_pair x m ≡ true) (eqb n l.holder)
-      (λ t. or_cases h d held (λ e. absurd (away (eqb-true m l.holder e ∙ sym (eqb-true n l.holder t)))) (or-by-left d _))
+      (λ t. or_cases h d held (λ e. absurd (away (eqb-true m l.holder e ∙ sym (eqb-true n l.holder t)))) (or_left d _))
       (λ t. pick-keeps (λ (x : Locks). in_pair x m ≡ true) (eqb n l.contender)
-      (λ u. or_cases h d held (or-by-left h _) (λ e. absurd (away (eqb-true m l.contender e ∙ sym (eqb-true n l.contender u)))))
+      (λ u. or_cases h d held (or_left h _) (λ e. absurd (away (eqb-true m l.contender e ∙ sym (eqb-true n l.contender u)))))
       (λ u. held))
 
 -- ---- what isn't changed
@@ -173,10 +174,10 @@ module _ (w : View) (s : Sound w) where
       (λ e. absurd (sent d.transmit.holder e (let z = eqb-true n d.transmit.holder e in s.locks.transmit.holder-kind (omega arith))))
       (λ e. absurd (sent d.transmit.contender e (let z = eqb-true n d.transmit.contender e in s.locks.transmit.contender-kind (omega arith))))))
       (λ u. absurd (
-      let entry = s.fifo.lock-entry (and_left d.fifo.locked (eqb n d.fifo.oldest) u) in
+      let entry = s.fifo.lock-entry (and_parts d.fifo.locked (eqb n d.fifo.oldest) u).0 in
       let some = s.fifo.count-le in
       let low = s.fifo.oldest-lt (omega arith) in
-      let z = eqb-true n d.fifo.oldest (and_right d.fifo.locked (eqb n d.fifo.oldest) u) in
+      let z = eqb-true n d.fifo.oldest (and_parts d.fifo.locked (eqb n d.fifo.oldest) u).1 in
       let high = receive-high d n r in
       omega arith))
 

@@ -3,7 +3,7 @@
 use Rattle.std.specs.Prelude.{◌≡◌, refl, ℕ, ◌-◌, ◌<◌, Bool, true, false, ◌&&◌, ◌||◌, not, leb}
 use Rattle.std.proofs.Common.{sym, ap, ap₂, ◌∙◌, subst, arith}
 use Rattle.std.proofs.Math.Bool.{and-true, and-false}
-use Rattle.std.proofs.lemmas.Bool.{not-true}
+use Rattle.std.proofs.lemmas.Bool.{not-true, and_parts}
 use Rattle.std.specs.Int.Bits.{bit_and, bit_or, and_zero_l}
 use Rattle.std.proofs.lemmas.Nat.{and_le_r}
 use Rattle.masks.specs.PickLaws.{pick-keeps}
@@ -23,7 +23,7 @@ use Rattle.rules.specs.Modes.{enter}
 use Rattle.controller.specs.View.{View}
 use Rattle.invariants.specs.Sound.{ModeSound, Idle}
 use Rattle.invariants.specs.KeptLaws.{at}
-use Rattle.invariants.specs.TestLaws.{impossible, and_left, and_right}
+use Rattle.invariants.specs.TestLaws.{impossible}
 
 -- ---- SYNLIF, bit 3 of the flags g
 
@@ -71,10 +71,10 @@ pub gisr-written : (synced : Bool) (f : Events) (v : ℕ) → RememberedIn synce
 unfolding write_gisr defers_clear
 gisr-written synced f v r =
     pick-keeps (RememberedIn synced) (has v SYNLIF && has f.gisr SYNLIF && not synced)
-    (λ p. let g = and_right (has v SYNLIF) (has f.gisr SYNLIF) (and_left (has v SYNLIF && has f.gisr SYNLIF) (not synced) p) in
+    (λ p. let g = (and_parts (has v SYNLIF) (has f.gisr SYNLIF) (and_parts (has v SYNLIF && has f.gisr SYNLIF) (not synced) p).0).1 in
     record {
       stands = λ t. written-without f.gisr v (gisr_events - SYNLIF) (omega arith) (and-false (has v SYNLIF)) g;
-      unsynced = λ t. not-true synced (and_right (has v SYNLIF && has f.gisr SYNLIF) (not synced) p);
+      unsynced = λ t. not-true synced (and_parts (has v SYNLIF && has f.gisr SYNLIF) (not synced) p).1;
     })
     (λ p. record {
       stands = λ t.
@@ -207,7 +207,7 @@ pub gisr-silent : (synced : Bool) (f : Events) (v : ℕ) → Silent f → Silent
 unfolding write_gisr defers_clear
 gisr-silent synced f v q =
     pick-keeps Silent (has v SYNLIF && has f.gisr SYNLIF && not synced)
-    (λ p. let g = and_right (has v SYNLIF) (has f.gisr SYNLIF) (and_left (has v SYNLIF && has f.gisr SYNLIF) (not synced) p) in
+    (λ p. let g = (and_parts (has v SYNLIF) (has f.gisr SYNLIF) (and_parts (has v SYNLIF && has f.gisr SYNLIF) (not synced) p).0).1 in
     impossible (ap (λ (x : ℕ). has x SYNLIF) (sym q.gisr-none) ∙ g))
     (λ p. record {
       risr-none = q.risr-none;

@@ -2,6 +2,7 @@
 -- and what it is that a place is taken for. What holds of the record is in proofs/Reachable.antt.
 use Rattle.std.specs.Prelude.{◌≡◌, ℕ, ◌≤◌, true, false, ◌&&◌, List, eqb}
 use Rattle.std.proofs.Common.{ap, ◌∙◌, eq-eqb}
+use Rattle.std.proofs.lemmas.Bool.{and_parts}
 use Rattle.masks.specs.PickLaws.{pick_true}
 use Rattle.rules.specs.declared.Answer.TheVariants.{Value}
 use Rattle.rules.specs.Registers.{region_of, register_at}
@@ -17,7 +18,7 @@ use Rattle.controller.specs.declared.Controller.{Controller}
 use Rattle.controller.specs.Carry.{reset_state, heads, answer_of, carry}
 use Rattle.controller.specs.Session.{step_of, end_of}
 use Rattle.invariants.specs.Reads.{is_window, after, reads}
-use Rattle.invariants.specs.TestLaws.{and_left, and_right, and-rest}
+use Rattle.invariants.specs.TestLaws.{and-rest}
 use Rattle.invariants.specs.ReachableLaws.{value-shown}
 
 -- ---- the two places (W5), after any session from reset
@@ -37,8 +38,8 @@ pub asleep-free : (es : List Step) → asleep (after es) ≡ true →
 unfolding asleep
 asleep-free es e =
     let c = after es in
-    let both = and_right c.mode.slprq (is_free c 0 && is_free c 1) e in
-    (and_left c.mode.slprq (is_free c 0 && is_free c 1) e, and_left (is_free c 0) (is_free c 1) both, and_right (is_free c 0) (is_free c 1) both)
+    let both = and_parts c.mode.slprq (is_free c 0 && is_free c 1) e in
+    let free = and_parts (is_free c 0) (is_free c 1) both.1 in (both.0, free.0, free.1)
 
 -- SLPRQ without SLPAK only with a place taken
 pub requested-taken : (es : List Step) → (after es).mode.slprq ≡ true → asleep (after es) ≡ false → (is_free (after es) 0 && is_free (after es) 1) ≡ false

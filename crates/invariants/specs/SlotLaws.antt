@@ -2,6 +2,7 @@
 use Rattle.std.specs.Prelude.{◌≡◌, ℕ, ◌<◌, false, ◌&&◌, not, ltb}
 use Rattle.std.proofs.Math.Path.{ap}
 use Rattle.std.proofs.Common.{sym, ◌∙◌, ltb-true}
+use Rattle.std.proofs.lemmas.Bool.{and_parts}
 use Rattle.masks.specs.Pick.{pick}
 use Rattle.masks.specs.PickLaws.{pick-false, by-test}
 use Rattle.masks.specs.Bits.{highest}
@@ -18,7 +19,6 @@ use Rattle.controller.specs.Session.{step_by}
 use Rattle.controller.specs.View.{View, view_of}
 use Rattle.invariants.specs.Sound.{Sound}
 use Rattle.invariants.specs.Slots.{slotted_with}
-use Rattle.invariants.specs.TestLaws.{and_right}
 use Rattle.invariants.specs.ReachableLaws.{targets-free}
 
 pub slot-unlocked : (w : View) → Sound w → (i : ℕ) → highest (offers w.control w.heads i) 16 < 16 →
@@ -35,7 +35,7 @@ slot_same p w s i =
     ap (pick (not c.mode.synced) (plain c Ignored))
     (by-test asked
     (λ t. ap (λ (q : Plan). pick asked q (plain c NotSent))
-    (pick-false (is_locked c n) (p n) (send_from c i n) (slot-unlocked w s i (ltb-true n 16 (and_right (ltb c.mode.last i) (ltb n 16) t)))))
+    (pick-false (is_locked c n) (p n) (send_from c i n) (slot-unlocked w s i (ltb-true n 16 (and_parts (ltb c.mode.last i) (ltb n 16) t).1))))
     (λ t. pick-false asked (pick (is_locked c n) (p n) (send_from c i n)) (plain c NotSent) t ∙ sym (pick-false asked (send_from c i n) (plain c NotSent) t)))
 
 -- any rules that decide as document 01's do on every sound record step alike

@@ -5,7 +5,7 @@ use Rattle.std.proofs.Math.Path.{refl, subst}
 use Rattle.std.proofs.Common.{sym, arith, eqb-true, ltb-true, ltb-false, leb-true, leb-false, le-leb}
 use Rattle.std.proofs.Math.Bool.{true, false, or-true}
 use mathlib.Core.List.{List, [], ◌∷◌, ◌++◌}
-use Rattle.std.proofs.lemmas.Bool.{eqb-false, not-false}
+use Rattle.std.proofs.lemmas.Bool.{eqb-false, not-false, and_parts, or_parts}
 use Rattle.std.proofs.Math.ListN.{get_or}
 use Rattle.std.proofs.lemmas.List.{set-get_or}
 use Rattle.std.proofs.Math.Dec.{eqb, ltb}
@@ -40,7 +40,7 @@ use Rattle.invariants.specs.AcceptedLaws.{Accepted, write-accepted, is_address, 
 use Rattle.invariants.specs.KeptLaws.{at, put, rewritten, reset_view, Kept}
 use Rattle.invariants.specs.FlagLaws.{cut-within}
 use Rattle.invariants.specs.ControlWriteLaws.{Prepared, prepared-by, new-oldest, new-room}
-use Rattle.invariants.specs.TestLaws.{and_left, and_right, or_left, or_right, both-keep}
+use Rattle.invariants.specs.TestLaws.{both-keep}
 
 -- ---- from the refusals
 
@@ -64,7 +64,7 @@ size_small v r = ltb-false 16 (v % 32) r
 
 size-unmoved : (c : Control) (v : ℕ) → refuses7 c 0x01 v ≡ false → some_of (moved_by_fsiz c (v % 32)) 16 ≡ false
 unfolding refuses7
-size-unmoved c v r = or_left (some_of (moved_by_fsiz c (v % 32)) 16) _ r
+size-unmoved c v r = (or_parts (some_of (moved_by_fsiz c (v % 32)) 16) _ r).0
 
 -- $20 to $2D, $30 to $3D
 transmit-held : (c : Control) (a p : ℕ) → a ≡ 0x20 + p → p < 14 → refuses5 c a ≡ false → c.transmit.holder < 16
@@ -72,7 +72,7 @@ unfolding refuses5
 transmit-held c a p e h r =
     let lo : leb 0x20 a ≡ true = le-leb 0x20 a (omega arith) in
     let hi : leb a 0x2D ≡ true = le-leb a 0x2D (omega arith) in
-    let t : (between 0x20 a 0x2D && not (has_holder c.transmit)) ≡ false = or_left _ _ r in
+    let t : (between 0x20 a 0x2D && not (has_holder c.transmit)) ≡ false = (or_parts _ _ r).0 in
     ltb-true c.transmit.holder 16 (not-false (has_holder c.transmit) (simp (lo, hi) at t))
 
 receive-held : (c : Control) (a p : ℕ) → a ≡ 0x30 + p → p < 14 → refuses5 c a ≡ false → c.receive.holder < 16
@@ -81,7 +81,7 @@ receive-held c a p e h r =
     let lo : leb 0x30 a ≡ true = le-leb 0x30 a (omega arith) in
     let hi : leb a 0x3D ≡ true = le-leb a 0x3D (omega arith) in
     let t : (between 0x30 a 0x3D && not (has_holder c.receive)) ≡ false =
-    or_right (between 0x20 a 0x2D && not (has_holder c.transmit)) _ r in
+    (or_parts (between 0x20 a 0x2D && not (has_holder c.transmit)) _ r).1 in
     ltb-true c.receive.holder 16 (not-false (has_holder c.receive) (simp (lo, hi) at t))
 
 receive-init : (a p : ℕ) → a ≡ 0x30 + p → p < 14 → only_in_init a ≡ true
@@ -103,7 +103,7 @@ module _ (c : Control) (a n v : ℕ) (e : a ≡ 0x50 + n) where
   unfolding refuses7
   kind-stays r =
       let t : (leb 0x50 a && moved_by_cfg c (a - 0x50) v) ≡ false =
-      or_right (eqb a 0x01 && some_of (moved_by_fsiz c (v % 32)) 16) _ r in
+      (or_parts (eqb a 0x01 && some_of (moved_by_fsiz c (v % 32)) 16) _ r).1 in
       simp (low, back) at t
 
   oldest-locked : refuses9 c a v ≡ false → not_oldest c n v ≡ false
@@ -285,12 +285,12 @@ module _ (P : View → Type 0) (K : (w : View) → P w → Kept P w) where
     write_kept a v ok Fidrj e = k.configures _ refl (λ h. h)
     write_kept a v ok Fidrmr e = k.configures _ refl (λ h. h)
     write_kept a v ok (TransmitWindow q) e =
-        transmit-kept a q v ok (eqb-true a (0x20 + q) (and_left (eqb a (0x20 + q)) (ltb q 14) e)) (ltb-true q 14 (and_right (eqb a (0x20 + q)) (ltb q 14) e))
+        let both = and_parts (eqb a (0x20 + q)) (ltb q 14) e in transmit-kept a q v ok (eqb-true a (0x20 + q) both.0) (ltb-true q 14 both.1)
     write_kept a v ok (ReceiveWindow q) e =
-        receive-kept a q v ok (eqb-true a (0x30 + q) (and_left (eqb a (0x30 + q)) (ltb q 14) e)) (ltb-true q 14 (and_right (eqb a (0x30 + q)) (ltb q 14) e))
+        let both = and_parts (eqb a (0x30 + q)) (ltb q 14) e in receive-kept a q v ok (eqb-true a (0x30 + q) both.0) (ltb-true q 14 both.1)
     write_kept a v ok (FifoWindow q) e = p
     write_kept a v ok (Bufctl n) e =
-        bufctl-kept w p a n v ok (eqb-true a (0x50 + n) (and_left (eqb a (0x50 + n)) (ltb n 16) e)) (ltb-true n 16 (and_right (eqb a (0x50 + n)) (ltb n 16) e))
+        let both = and_parts (eqb a (0x50 + n)) (ltb n 16) e in bufctl-kept w p a n v ok (eqb-true a (0x50 + n) both.0) (ltb-true n 16 both.1)
     write_kept a v ok Reserved e = p
 
     any-write : (a v : ℕ) → Accepted w.control a v →
@@ -314,7 +314,7 @@ module _ (P : View → Type 0) (K : (w : View) → P w → Kept P w) where
         let n = highest (offers w.control w.heads i) 16 in
         pick-keeps (Good []) (not w.control.mode.synced) (λ u. p)
         (λ u. pick-keeps (Good []) (ltb w.control.mode.last i && ltb n 16)
-        (λ x. k.sends i n t refl (ltb-true n 16 (and_right (ltb w.control.mode.last i) (ltb n 16) x)))
+        (λ x. k.sends i n t refl (ltb-true n 16 (and_parts (ltb w.control.mode.last i) (ltb n 16) x).1))
         (λ x. p))
 
     fifo-kept : (f : List ℕ) (i : ℕ) → w.control.mode.init ≡ false → w.control.mode.synced ≡ true → get_or f 0 0 ≡ i → eqb i 0 ≡ false →
@@ -381,7 +381,7 @@ module _ (P : View → Type 0) (K : (w : View) → P w → Kept P w) where
         pick-keeps (Good w p f) (not w.control.mode.synced) (λ u. p)
         (λ u. pick-keeps (Good w p f) (not good || eqb id 0) (λ x. (K on now).raises ERRIF refl i)
         (λ x. subst (λ (n : ℕ). Good w p f (found (cancel w.control) id n)) (lookup-on id)
-        (found-kept on now f i (not-false w.control.mode.synced u) (or_right (not good) (eqb id 0) x))))
+        (found-kept on now f i (not-false w.control.mode.synced u) (or_parts (not good) (eqb id 0) x).1)))
 
     act-kept : P reset_view → (e : Step) → refusal w.control e ≡ 0 → Good w p (frame_in e) (act w.control w.heads e)
     unfolding act refusal head_moves head_move head_holds head_hold

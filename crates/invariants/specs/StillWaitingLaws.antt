@@ -8,6 +8,7 @@ use native.Mathlib.Omega.{arith}
 use borrow.Author.Tests.{eq-eqb, eqb-true}
 use Rattle.std.proofs.Math.Seq.{get_or-set_same}
 use Rattle.std.proofs.Math.Dec.{eqb}
+use Rattle.std.proofs.lemmas.Bool.{and_from, and_parts, or_left, or_right}
 use Rattle.masks.specs.Pick.{pick}
 use Rattle.masks.specs.PickLaws.{pick_true, pick-false, pick-keeps}
 use Rattle.locks.specs.declared.Locks.{Locks}
@@ -27,7 +28,7 @@ use Rattle.rules.specs.Steps.{Step, frame_in}
 use Rattle.rules.specs.Plan.{Move, hold, Plan}
 use Rattle.rules.specs.Rules.{on_bus}
 use Rattle.controller.specs.Carry.{row_at, hold_all, answer_of}
-use Rattle.invariants.specs.TestLaws.{impossible, and_left, and_both, or-by-left, or-by-right, both-keep}
+use Rattle.invariants.specs.TestLaws.{impossible, both-keep}
 use Rattle.invariants.specs.AcceptedLaws.{is_address}
 use Rattle.invariants.specs.ControlWriteLaws.{prepared-by}
 use Rattle.invariants.specs.Newest.{is_waited_for, newest, is_waiting_for}
@@ -54,13 +55,13 @@ module _ (e : Step) (rows held : List Contents) (n : ℕ) where
       pick-keeps Begins (is_free c 0)
       (λ u a two. (
         let z = eqb-true m n a in omega arith,
-        or-by-left (eqb m n) (eqb c.places.second n) a,
+        or_left (eqb m n) (eqb c.places.second n) a,
         ap (row_at (hold_all e (hold 0 ∷ []) held)) (pick_true (eqb m n) 0 1 a) ∙ get_or-set_same held 0 _ no_contents (omega arith),
       ))
       (λ u. pick-keeps Begins (is_free c 1)
       (λ x a two. (
         let z = eqb-true m n a in omega arith,
-        or-by-right (eqb c.places.first n) (eqb m n) a,
+        or_right (eqb c.places.first n) (eqb m n) a,
         ap (row_at (hold_all e (hold 1 ∷ []) held)) (pick_true (eqb m n) 1 0 a) ∙ get_or-set_same held 1 _ no_contents (omega arith),
       ))
       (λ x a. impossible a))
@@ -173,8 +174,8 @@ module _ (c : Control) (e : Step) (rows held : List Contents) (n : ℕ) (small :
   write-steady a v other (FifoWindow q) at = unmoved refl
   write-steady a v other (Bufctl m) at =
       bufctl-steady m v (λ t same.
-      let here = eqb-true a (0x50 + m) (and_left (eqb a (0x50 + m)) (ltb m 16) at) in
-      false≢true (sym other ∙ and_both (eqb a (0x50 + n)) (not (has v LOCK)) (eq-eqb a (0x50 + n) (omega arith)) (ap not t)))
+      let here = eqb-true a (0x50 + m) (and_parts (eqb a (0x50 + m)) (ltb m 16) at).0 in
+      false≢true (sym other ∙ and_from (eqb a (0x50 + n)) (not (has v LOCK)) (eq-eqb a (0x50 + n) (omega arith)) (ap not t)))
   write-steady a v other Reserved at = unmoved refl
 
   -- ---- bus steps

@@ -1,6 +1,6 @@
--- Laws of the kinds of buffers: what an `||` or `&&` of the code leaves, and masks.
+-- Laws of the masks of kinds.
 use Prim.Native.Nat.{ℕ, ◌-◌}
-use mathlib.Core.Bool.{Bool, true, false, not, ◌&&◌, ◌||◌}
+use mathlib.Core.Bool.{Bool, true, false, not, ◌&&◌}
 use mathlib.Core.Path.{◌≡◌, ap, sym, ◌∙◌}
 use native.Mathlib.Omega.{arith}
 use borrow.Author.Tests.{le-leb, lt-leb, ltb-true, ltb-false}
@@ -8,22 +8,6 @@ use lib.Dec.{eqb, ltb, leb}
 use Rattle.masks.specs.PickLaws.{by-test}
 use Rattle.masks.specs.Bits.{mask_of}
 use Rattle.masks.specs.Laws.{bit-none, mask-of, not-by-mask, same-mask}
-
--- ---- what `a || b` and `a && b` leave in u, r being the value of a, and s that of b, which is asked only where a leaves it open
-
-pub or-first : (a b r u : Bool) → r ≡ a → r ≡ true → u ≡ r → u ≡ (a || b)
-or-first a b r u p t e = e ∙ t ∙ ap (λ (x : Bool). x || b) (sym t ∙ p)
-
-pub or-second : (a b r s u : Bool) → r ≡ a → r ≡ false → s ≡ b → u ≡ s → u ≡ (a || b)
-or-second a b r s u p t q e = e ∙ q ∙ ap (λ (x : Bool). x || b) (sym t ∙ p)
-
-pub and_first : (a b r u : Bool) → r ≡ a → r ≡ false → u ≡ r → u ≡ (a && b)
-and_first a b r u p t e = e ∙ t ∙ ap (λ (x : Bool). x && b) (sym t ∙ p)
-
-pub and_second : (a b r s u : Bool) → r ≡ a → r ≡ true → s ≡ b → u ≡ s → u ≡ (a && b)
-and_second a b r s u p t q e = e ∙ q ∙ ap (λ (x : Bool). x && b) (sym t ∙ p)
-
--- ---- masks
 
 not-less : (n k : ℕ) → not (ltb n k) ≡ leb k n
 not-less n k = by-test (ltb n k)

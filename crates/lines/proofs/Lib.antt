@@ -1,5 +1,3 @@
 pub mod DigitLaws
-pub mod FrameLaws
-pub mod FrameLineLaws
+pub mod DecodeLaws
 pub mod LetterLaws
-pub mod TriedLaws

@@ -1,67 +1,61 @@
--- What the functions behind `read` promise, in the grammar's terms.
-use Rattle.std.specs.Prelude.{ℕ, ◌+◌, ◌-◌, ◌≤◌, ◌<◌, ◌≡◌, List, Bool, length, get_or, take, drop, ltb, eqb}
+-- What the functions behind `parse` and `read` promise, in the grammar's terms.
+use Rattle.std.specs.Prelude.{ℕ, zero, suc, ◌+◌, List, [], ◌∷◌, Bool, true, false, get_or, drop, set, ltb, eqb, Option, Some, None}
 use Rattle.masks.specs.Pick.{pick}
 use Rattle.controller.specs.declared.Call.{Call}
 use Rattle.controller.specs.declared.Call.TheVariants.{Frame}
-use Rattle.lines.specs.declared.Line.{Line}
-use Rattle.lines.specs.declared.Line.TheVariants.{Means, Unread}
+use Rattle.lines.specs.declared.FrameBytes.{FrameBytes}
 use Rattle.lines.specs.declared.Found.{Found}
-use Rattle.lines.specs.Grammar.{no_bytes, no_frame, nibble_of, byte_of, three_of, four_of, seven_of, decode_from}
-use Rattle.lines.specs.Found.{none_found, found_by}
+use Rattle.lines.specs.Grammar.{no_bytes, no_frame, byte_of, one_of, three_of, four_of, seven_of, is_frame}
+use Rattle.lines.specs.Found.{found_by}
 
--- `wide`: a digit's value, 256 for any other byte
-unfoldable pub wide_of : ℕ → ℕ
-wide_of b = pick (ltb 15 (nibble_of b)) 256 (nibble_of b)
+-- x, where it is below n
+unfoldable pub below : ℕ → ℕ → Option ℕ
+below n x = pick (ltb x n) (Some x) None
 
--- `pair`: the value of two digits, above 255 for any other two bytes
-pub record Pair (high low r : ℕ) : Type 0 where
-  pub digits : r ≤ 255 → r ≡ byte_of high low
-  pub other : 255 < r → 255 < byte_of high low
+-- `verdict`: G or B
+unfoldable pub verdict_of : ℕ → Option Bool
+verdict_of b = pick (eqb b 71) (Some true) (pick (eqb b 66) (Some false) None)
 
--- `at_lf`: the step, if an LF stands at index lf
-unfoldable pub ended_of : Call → ℕ → List ℕ → Found
-ended_of call lf s = pick (eqb (get_or s lf 0) 10) (found_by (Means call) no_frame lf) none_found
+-- how many bytes of two digits each the digits begin with, at most n
+unfoldable pub count_in : ℕ → List ℕ → ℕ
+count_in zero ds = 0
+count_in (suc n) [] = 0
+count_in (suc n) (h ∷ []) = 0
+count_in (suc n) (h ∷ l ∷ ds) = pick (ltb 255 (byte_of h l)) 0 (suc (count_in n ds))
 
--- x, what k bytes from index from are, if the text goes on with an LF
-abbrev pub tried_of : Line → ℕ → List ℕ → ℕ → Found
-tried_of (Means call) k s from = pick (ltb (length s - from) (k + 1)) none_found (ended_of call (from + k) s)
-tried_of Unread k s from = none_found
+-- those bytes, put at place i and on
+unfoldable pub put_in : List ℕ → ℕ → ℕ → List ℕ → List ℕ
+put_in bytes i zero ds = bytes
+put_in bytes i (suc n) [] = bytes
+put_in bytes i (suc n) (h ∷ []) = bytes
+put_in bytes i (suc n) (h ∷ l ∷ ds) = pick (ltb 255 (byte_of h l)) bytes (put_in (set bytes i (byte_of h l)) (i + 1) n ds)
 
--- the lines without a frame: W; R or T; S or P
-unfoldable pub seven_at : ℕ → List ℕ → ℕ → Found
-seven_at letter s from =
-    tried_of
-    (seven_of letter (get_or s (from + 1) 0) (get_or s (from + 2) 0) (get_or s (from + 3) 0) (get_or s (from + 4) 0) (get_or s (from + 5) 0) (get_or s (from + 6) 0))
-    7 s from
+-- `frame_bytes`
+abbrev pub frame_in : List ℕ → FrameBytes
+frame_in ds = record { bytes = put_in no_bytes 0 30 ds; size = count_in 30 ds }
 
-unfoldable pub four_at : ℕ → List ℕ → ℕ → Found
-four_at letter s from = tried_of (four_of letter (get_or s (from + 1) 0) (get_or s (from + 2) 0) (get_or s (from + 3) 0)) 4 s from
+-- `framed`: the frame, if an LF stands behind its digits
+unfoldable pub framed_in : Bool → List ℕ → ℕ → Option Found
+framed_in good ds from =
+    pick (eqb (get_or ds (count_in 30 ds + count_in 30 ds) 0) 10)
+    (found_by (Some (Frame good)) (frame_in ds) (from + (count_in 30 ds + count_in 30 ds))) None
 
-unfoldable pub three_at : ℕ → List ℕ → ℕ → Found
-three_at letter s from = tried_of (three_of letter (get_or s (from + 1) 0) (get_or s (from + 2) 0)) 3 s from
+-- a line of k bytes that is x, if an LF stands behind them
+abbrev pub ended_by : ℕ → Option Call → List ℕ → ℕ → Option Found
+ended_by k x t from = pick (eqb (get_or t k 0) 10) (found_by x no_frame (from + k)) None
 
--- `verdict`: 1 for G, 0 for B, 2 for any other byte
-unfoldable pub verdict_of : ℕ → ℕ
-verdict_of b = pick (eqb b 71) 1 (pick (eqb b 66) 0 2)
+-- `first`: by the first letter
+abbrev pub verdict_then : Option Bool → List ℕ → ℕ → Option Found
+verdict_then (Some good) ds from = framed_in good ds from
+verdict_then None ds from = None
 
--- `most`: how many bytes of two digits n bytes hold, at most thirty
-pub record Most (n r : ℕ) : Type 0 where
-  pub few : r ≤ 30
-  pub fits : r + r ≤ n
-  pub all : r < 30 → n ≤ r + r + 1
-
--- i bytes, of two digits each from index from on, stand in bytes: to decode from the first digit on is to go on behind them
-pub record Runs (s : List ℕ) (from : ℕ) (bytes : List ℕ) (i : ℕ) : Type 0 where
-  pub run : (g : Bool) (m : ℕ) → i + i ≤ m
-      → decode_from g no_bytes 0 (take m (drop from s)) ≡ decode_from g bytes i (take (m - (i + i)) (drop (from + (i + i)) s))
-
--- `decode`: as many bytes of two digits each as there are from index from on, at most limit; and if an LF stands behind them, the frame
-pub record Decoded (good : Bool) (s : List ℕ) (from limit : ℕ) (r : Found) : Type 0 where
-  pub bytes : List ℕ
-  pub size : ℕ
-  pub few : size ≤ limit
-  pub runs : Runs s from bytes size
-  pub stops : size < limit → 255 < byte_of (get_or s (from + (size + size)) 0) (get_or s (from + (size + size) + 1) 0)
-  pub is : r
-      ≡ pick (eqb (get_or s (from + (size + size)) 0) 10)
-      (found_by (Means (Frame good)) (record { bytes = bytes; size = size }) (from + (size + size))) none_found
+unfoldable pub read_of : List ℕ → ℕ → Option Found
+read_of t from =
+    pick (is_frame t) (verdict_then (verdict_of (get_or t 2 0)) (drop 4 t) (from + 4))
+    (pick (eqb (get_or t 0 0) 87)
+    (ended_by 7 (seven_of (get_or t 0 0) (get_or t 1 0) (get_or t 2 0) (get_or t 3 0) (get_or t 4 0) (get_or t 5 0) (get_or t 6 0)) t from)
+    (pick (eqb (get_or t 0 0) 82) (ended_by 4 (four_of (get_or t 0 0) (get_or t 1 0) (get_or t 2 0) (get_or t 3 0)) t from)
+    (pick (eqb (get_or t 0 0) 84) (ended_by 4 (four_of (get_or t 0 0) (get_or t 1 0) (get_or t 2 0) (get_or t 3 0)) t from)
+    (pick (eqb (get_or t 0 0) 83) (ended_by 3 (three_of (get_or t 0 0) (get_or t 1 0) (get_or t 2 0)) t from)
+    (pick (eqb (get_or t 0 0) 80) (ended_by 3 (three_of (get_or t 0 0) (get_or t 1 0) (get_or t 2 0)) t from)
+    (ended_by 1 (one_of (get_or t 0 0)) t from))))))

@@ -1,5 +1,5 @@
 -- Laws of a step that stands in a text: no LF is inside its line, so the first LF behind it ends it.
-use Rattle.std.specs.Prelude.{ℕ, zero, suc, ◌+◌, ◌-◌, ◌≤◌, ◌<◌, ◌≡◌, refl, List, [], ◌∷◌, Bool, true, false, take, drop, set, ltb, eqb}
+use Rattle.std.specs.Prelude.{ℕ, zero, suc, ◌+◌, ◌-◌, ◌≤◌, ◌<◌, ◌≡◌, refl, List, [], ◌∷◌, Bool, true, false, take, drop, set, ltb, eqb, Option, Some, None}
 use native.Mathlib.Omega.{arith}
 use Rattle.std.proofs.Common.{sym, ◌∙◌, length-take, length-drop, get_or-take, get_or-drop}
 use Rattle.std.proofs.Math.Path.{ap}
@@ -9,13 +9,11 @@ use Rattle.std.proofs.Math.ListN.{length, get_or}
 use Rattle.masks.specs.Pick.{pick}
 use Rattle.masks.specs.PickLaws.{pick_true, pick-keeps, by-test}
 use Rattle.controller.specs.declared.Call.{Call}
-use Rattle.lines.specs.declared.Line.{Line}
-use Rattle.lines.specs.declared.Line.TheVariants.{Means, Unread}
 use Rattle.lines.specs.declared.FrameBytes.{FrameBytes}
 use Rattle.lines.specs.declared.Parsed.{Parsed}
 use Rattle.lines.specs.declared.Found.{Found}
 use Rattle.lines.specs.Grammar.{nibble_of, byte_of, plain_of, one_of, sync_of, fault_of, three_of, four_of, seven_of, short_of, is_frame, decode_from, frame_line, line_of}
-use Rattle.lines.specs.Found.{lf_in, none_found, found_by, found_in, found_at}
+use Rattle.lines.specs.Found.{lf_in, found_by, found_in, found_at}
 
 -- ---- digits
 
@@ -28,7 +26,7 @@ unfolding byte_of
 byte_low h l p = pick-keeps (λ (x : ℕ). x ≡ 256) (ltb 15 (nibble_of h)) (λ e. refl) (λ e. pick_true _ _ _ (lt-ltb 15 (nibble_of l) p))
 
 -- an LF is no digit
-lf-high : (h l : ℕ) → byte_of h l ≤ 255 → h ≡ 10 → ⊥
+pub lf-high : (h l : ℕ) → byte_of h l ≤ 255 → h ≡ 10 → ⊥
 unfolding nibble_of pick
 lf-high h l p e = let z : 15 < nibble_of h = rw e (omega arith) in omega (arith, byte_high h l z)
 
@@ -38,11 +36,11 @@ lf-low h l p e = let z : 15 < nibble_of l = rw e (omega arith) in omega (arith, 
 
 -- ---- a line with an LF inside is no step
 
-abbrev No : Line → Type 0
-No x = x ≡ Unread
+abbrev No : Option Call → Type 0
+No x = x ≡ None
 
 abbrev Plain : Parsed → Type 0
-Plain p = p ≡ plain_of Unread
+Plain p = p ≡ plain_of None
 
 pub past : (b n : ℕ) → (b ≡ n → ⊥) → n ≤ b → n + 1 ≤ b
 past b n p q = omega arith
@@ -149,10 +147,10 @@ unfolding frame_line pick
 verdict-lf v ds e = ap (λ (b : ℕ). frame_line b ds) e
 
 -- a line that begins as a frame's has an F, and a tab on either side of its verdict
-abbrev Begun : List ℕ → Type 0
+abbrev pub Begun : List ℕ → Type 0
 Begun l = (get_or l 0 0 ≡ 70) × ((get_or l 1 0 ≡ 9) × (get_or l 3 0 ≡ 9))
 
-begun : (l : List ℕ) → is_frame l ≡ true → Begun l
+pub begun : (l : List ℕ) → is_frame l ≡ true → Begun l
 unfolding is_frame
 begun l =
     pick-keeps Q (ltb (length l) 4) (λ n e. absurd (false≢true e))
@@ -183,7 +181,7 @@ frame-lf l j f h e =
     let z : 4 + (j - 4) ≡ j = omega arith in
     digits-lf _ _ (j - 4) (omega (arith, length-drop 4 l)) (get_or-drop 4 l (j - 4) 0 ∙ ap (λ (i : ℕ). get_or l i 0) z ∙ e))
 
-pub lf-unread : (l : List ℕ) (j : ℕ) → j < length l → get_or l j 0 ≡ 10 → line_of l ≡ plain_of Unread
+pub lf-unread : (l : List ℕ) (j : ℕ) → j < length l → get_or l j 0 ≡ 10 → line_of l ≡ plain_of None
 unfolding line_of
 lf-unread l j h e =
     pick-keeps Plain (ltb 64 (length l)) (λ t. refl)
@@ -206,30 +204,30 @@ lf-first (b ∷ bs) (suc k) h e =
     let l : lf_in bs ≤ k = lf-first bs k (omega arith) e in
     pick-keeps (λ (i : ℕ). i ≤ suc k) (eqb b 10) (λ p. omega arith) (λ p. omega arith)
 
-pub no_step : {A : Type 0} (call : Call) → Unread ≡ Means call → A
+pub no_step : {A : Type 0} (call : Call) → None ≡ Some call → A
 no_step call e = absurd (let z : ◌≡◌ {A = ℕ} 0 1 = cc in omega arith)
 
 -- ---- what is found
 
 module _ (t : List ℕ) (from : ℕ) where
-  pub none_found_lem : ((m : ℕ) → m < length t → get_or t m 0 ≡ 10 → (line_of (take m t)).line ≡ Unread) → found_in t from ≡ none_found
+  pub none_found_lem : ((m : ℕ) → m < length t → get_or t m 0 ≡ 10 → (line_of (take m t)).line ≡ None) → found_in t from ≡ None
   unfolding found_in
   none_found_lem f =
-      pick-keeps (λ (r : Found). r ≡ none_found) (ltb (lf_in t) (length t))
+      pick-keeps (λ (r : Option Found). r ≡ None) (ltb (lf_in t) (length t))
       (λ e.
       let h : lf_in t < length t = ltb-true (lf_in t) (length t) e in
-      ap (λ (x : Line). found_by x (line_of (take (lf_in t) t)).frame (from + lf_in t)) (f (lf_in t) h (lf-at t h)))
+      ap (λ (x : Option Call). found_by x (line_of (take (lf_in t) t)).frame (from + lf_in t)) (f (lf_in t) h (lf-at t h)))
       (λ e. refl)
 
   -- k bytes that are a step
-  module _ (k : ℕ) (call : Call) (f : FrameBytes) (own : line_of (take k t) ≡ record { line = Means call; frame = f }) where
+  module _ (k : ℕ) (call : Call) (f : FrameBytes) (own : line_of (take k t) ≡ record { line = Some call; frame = f }) where
     pub no-lf : (j : ℕ) → j < k → j < length t → get_or t j 0 ≡ 10 → ⊥
     no-lf j h i e =
         let l : j < length (take k t) = rw length-take (omega arith) in
-        let u : line_of (take k t) ≡ plain_of Unread = lf-unread (take k t) j l (get_or-take k t j 0 h ∙ e) in
+        let u : line_of (take k t) ≡ plain_of None = lf-unread (take k t) j l (get_or-take k t j 0 h ∙ e) in
         no_step call (ap (λ (p : Parsed). p.line) (sym u ∙ own))
 
-    pub step-found : k < length t → get_or t k 0 ≡ 10 → found_in t from ≡ record { call = call; frame = f; at = from + k }
+    pub step-found : k < length t → get_or t k 0 ≡ 10 → found_in t from ≡ found_by (Some call) f (from + k)
     unfolding found_in
     step-found h e =
         let l : lf_in t ≤ k = lf-first t k h e in
@@ -242,18 +240,17 @@ module _ (t : List ℕ) (from : ℕ) where
 
 -- ---- what a step that is found says of its line
 
-by-at : (x : Line) (f : FrameBytes) (at : ℕ) → 0 < (found_by x f at).at → (found_by x f at).at ≡ at
-by-at (Means call) f at h = refl
-by-at Unread f at h = absurd (omega arith)
+by-some : (p : Parsed) (at : ℕ) (r : Found) → found_by p.line p.frame at ≡ Some r → (r.at ≡ at) × (p ≡ record { line = Some r.call; frame = r.frame })
+by-some p at r = by-line p.line refl where
+  by-line : (x : Option Call) → p.line ≡ x → found_by x p.frame at ≡ Some r → (r.at ≡ at) × (p ≡ record { line = Some r.call; frame = r.frame })
+  by-line (Some call) q e =
+      let z : ◌≡◌ {A = Found} (record { call = call; frame = p.frame; at = at }) r = cc in
+      (ap (λ (x : Found). x.at) (sym z), ap (λ (x : Option Call). record { line = x; frame = p.frame }) q ∙ ap (λ (x : Found). record { line = Some x.call; frame = x.frame }) z)
+  by-line None q e = absurd (cc)
 
-by-means : (x : Line) (f : FrameBytes) (at : ℕ) → 0 < (found_by x f at).at
-    → ◌≡◌ {A = Parsed} (record { line = x; frame = f }) (record { line = Means (found_by x f at).call; frame = (found_by x f at).frame })
-by-means (Means call) f at h = refl
-by-means Unread f at h = absurd (omega arith)
-
-by-none : (x : Line) (f : FrameBytes) (at : ℕ) → (found_by x f at).at ≡ 0 → (at ≡ 0 → x ≡ Unread) → x ≡ Unread
-by-none (Means call) f at h i = i h
-by-none Unread f at h i = refl
+by-none : (x : Option Call) (f : FrameBytes) (at : ℕ) → found_by x f at ≡ None → x ≡ None
+by-none (Some call) f at e = absurd (cc)
+by-none None f at e = refl
 
 module _ (s : List ℕ) (from : ℕ) where
   abbrev rest : List ℕ
@@ -262,35 +259,23 @@ module _ (s : List ℕ) (from : ℕ) where
   abbrev own : Parsed
   own = line_of (take (lf_in rest) rest)
 
-  pub found-lf : 0 < (found_at s from).at → ((found_at s from).at ≡ from + lf_in (drop from s)) × (lf_in (drop from s) < length (drop from s))
+  -- its LF is its line's
+  pub found-lf : (r : Found) → found_at s from ≡ Some r → (r.at ≡ from + lf_in (drop from s)) × (lf_in (drop from s) < length (drop from s))
   unfolding found_in
-  found-lf =
-      pick-keeps (λ (r : Found). 0 < r.at → (r.at ≡ from + lf_in rest) × (lf_in rest < length rest)) (ltb (lf_in rest) (length rest))
-      (λ e h. (by-at own.line own.frame (from + lf_in rest) h, ltb-true (lf_in rest) (length rest) e)) (λ e h. absurd (omega arith))
+  found-lf r =
+      pick-keeps (λ (x : Option Found). x ≡ Some r → (r.at ≡ from + lf_in rest) × (lf_in rest < length rest)) (ltb (lf_in rest) (length rest))
+      (λ t e. ((by-some own (from + lf_in rest) r e).0, ltb-true (lf_in rest) (length rest) t)) (λ t e. absurd (cc))
 
-  pub found-step : 0 < (found_at s from).at
-      → line_of (take (lf_in (drop from s)) (drop from s)) ≡ record { line = Means (found_at s from).call; frame = (found_at s from).frame }
+  pub found-step : (r : Found) → found_at s from ≡ Some r
+      → line_of (take (lf_in (drop from s)) (drop from s)) ≡ record { line = Some r.call; frame = r.frame }
   unfolding found_in
-  found-step =
-      pick-keeps (λ (r : Found). 0 < r.at → own ≡ record { line = Means r.call; frame = r.frame }) (ltb (lf_in rest) (length rest))
-      (λ e h. by-means own.line own.frame (from + lf_in rest) h) (λ e h. absurd (omega arith))
+  found-step r =
+      pick-keeps (λ (x : Option Found). x ≡ Some r → own ≡ record { line = Some r.call; frame = r.frame }) (ltb (lf_in rest) (length rest))
+      (λ t e. (by-some own (from + lf_in rest) r e).1) (λ t e. absurd (cc))
 
-  -- at index 0 there is no LF of a step: its line has at least one byte
-  empty : lf_in rest ≡ 0 → own.line ≡ Unread
-  unfolding line_of is_frame short_of pick
-  empty e = ap (λ (n : ℕ). (line_of (take n rest)).line) e
-
-  pub found_none : (found_at s from).at ≡ 0 → lf_in (drop from s) < length (drop from s) → (line_of (take (lf_in (drop from s)) (drop from s))).line ≡ Unread
+  pub found_none : found_at s from ≡ None → lf_in (drop from s) < length (drop from s) → (line_of (take (lf_in (drop from s)) (drop from s))).line ≡ None
   unfolding found_in
   found_none =
-      pick-keeps (λ (r : Found). r.at ≡ 0 → lf_in rest < length rest → own.line ≡ Unread) (ltb (lf_in rest) (length rest))
-      (λ e h k. by-none own.line own.frame (from + lf_in rest) h (λ z. empty (omega arith)))
-      (λ e h k. absurd (omega (arith, ltb-false (lf_in rest) (length rest) e)))
-
-  -- where nothing is found nothing is done
-  pub found_nothing : (found_at s from).at ≡ 0 → found_at s from ≡ none_found
-  unfolding found_in
-  found_nothing =
-      pick-keeps (λ (r : Found). r.at ≡ 0 → r ≡ none_found) (ltb (lf_in rest) (length rest))
-      (λ e h. ap (λ (x : Line). found_by x own.frame (from + lf_in rest)) (by-none own.line own.frame (from + lf_in rest) h (λ z. empty (omega arith))))
-      (λ e h. refl)
+      pick-keeps (λ (x : Option Found). x ≡ None → lf_in rest < length rest → own.line ≡ None) (ltb (lf_in rest) (length rest))
+      (λ t e k. by-none own.line own.frame (from + lf_in rest) e)
+      (λ t e k. absurd (omega (arith, ltb-false (lf_in rest) (length rest) t)))

@@ -1,14 +1,13 @@
 -- Laws of the grammar, for those who read lines and step their frames.
-use Rattle.std.specs.Prelude.{ℕ, ◌+◌, ◌≤◌, ◌<◌, ◌≡◌, List, [], ◌∷◌, Bool, true, false, length, drop, get_or, set, ltb, eqb}
+use Rattle.std.specs.Prelude.{ℕ, ◌+◌, ◌≤◌, ◌<◌, ◌≡◌, List, [], ◌∷◌, Bool, true, false, length, drop, get_or, set, ltb, eqb, None}
 use Rattle.std.proofs.Common.{arith, lt-ltb, ltb-false, length-drop}
 use Rattle.std.proofs.lemmas.Bool.{false≢true}
 use Rattle.masks.specs.PickLaws.{pick-keeps, pick_true}
-use Rattle.lines.specs.declared.Line.TheVariants.{Unread}
 use Rattle.lines.specs.declared.Parsed.{Parsed}
 use Rattle.lines.specs.Grammar.{no_bytes, line_of, frame_line, is_frame, decode_from, plain_of, byte_of}
 
 -- "one over 64 bytes without its LF, is 'unread'"
-pub over-unread : (s : List ℕ) → 64 < length s → line_of s ≡ plain_of Unread
+pub over-unread : (s : List ℕ) → 64 < length s → line_of s ≡ plain_of None
 unfolding line_of
 over-unread s h = pick_true _ _ _ (lt-ltb 64 (length s) h)
 

@@ -3,19 +3,13 @@
 
 mod in_text;
 
-ghost use Rattle.std.specs.Prelude.{◌≡◌, ◌≤◌, length};
-ghost use Rattle.lines.specs.Grammar.{bytes_in, no_bytes, nibble_of, byte_of, plain_of, one_of, sync_of, fault_of, three_of, four_of, seven_of, short_of, is_frame, decode_from, frame_line, line_of};
+ghost use Rattle.std.specs.Prelude.{◌≡◌, ◌≤◌, length, option_map};
+ghost use Rattle.lines.specs.Grammar.{bytes_in, no_bytes, no_frame, nibble_of, byte_of, plain_of, sync_of, fault_of, short_of, decode_from, frame_line, line_of};
+ghost use Rattle.lines.specs.CodeFound.{below, verdict_of, frame_in};
 
 use controller::Call;
-pub use in_text::{none, read};
+pub use in_text::read;
 use rules::{Fault, SyncKind};
-
-// What a line means: a call, or it is unread.
-#[derive(Clone, Copy)]
-pub enum Line {
-    Means(Call),
-    Unread,
-}
 
 // A frame's bytes as a value: the first size of them, all where size is larger. No line has more than thirty. The rules look at the
 // first two; the thirty-two behind them are copied as two words of sixteen, where an odd rest would overlap and each copy of it wait for the
@@ -30,17 +24,17 @@ pub struct FrameBytes {
 pub fn frame_size(f: FrameBytes) -> usize
     ensures { result ≡ length (bytes_in f) }
 {
-    if f.size < 34 { f.size as usize } else { 34 }
+    (f.size as usize).min(34)
 }
 
-// A line, and the bytes of its frame beside it: none where it is no frame.
+// The step that a line is, none where it is unread; and the bytes of its frame beside it, none where it is no frame.
 #[derive(Clone, Copy)]
 pub struct Parsed {
-    pub line: Line,
+    pub line: Option<Call>,
     pub frame: FrameBytes,
 }
 
-// A step that stands in a text: its call, its frame's bytes, and the index of its line's LF; 0 where there is none.
+// A step that stands in a text: its call, its frame's bytes, and the index of its line's LF.
 #[derive(Clone, Copy)]
 pub struct Found {
     pub call: Call,
@@ -48,257 +42,183 @@ pub struct Found {
     pub at: usize,
 }
 
-// The value of an upper-case hexadecimal digit, or 16.
-fn nibble(b: u8) -> u16
-    ensures { result ≡ nibble_of b }
+// The value of an upper-case hexadecimal digit. Sixteen arms make a table: by two ranges, branches on a long frame's digits are guessed wrong
+// twice as often, and a recording of such frames took a quarter more time.
+#[tactic(auto, unfolding(crate::specs::Grammar::nibble_of, crate::specs::CodeFound::below, masks::specs::Pick::pick))]
+fn nibble(b: u8) -> Option<u8>
+    ensures { result ≡ below 16 (nibble_of b) }
 {
-    if b < b'0' {
-        return 16;
+    match b {
+        b'0' => Some(0),
+        b'1' => Some(1),
+        b'2' => Some(2),
+        b'3' => Some(3),
+        b'4' => Some(4),
+        b'5' => Some(5),
+        b'6' => Some(6),
+        b'7' => Some(7),
+        b'8' => Some(8),
+        b'9' => Some(9),
+        b'A' => Some(10),
+        b'B' => Some(11),
+        b'C' => Some(12),
+        b'D' => Some(13),
+        b'E' => Some(14),
+        b'F' => Some(15),
+        _ => None,
     }
-    if b <= b'9' {
-        return (b - b'0') as u16;
-    }
-    if b < b'A' {
-        return 16;
-    }
-    if b <= b'F' {
-        return (b - b'A') as u16 + 10;
-    }
-    16
 }
 
-// The value of two digits, or 256.
-fn byte(high: u8, low: u8) -> u16
-    ensures { result ≡ byte_of high low }
+// The value of two digits. Always inlined: called, it cost a recording of long frames 7 %.
+#[inline(always)]
+#[tactic(auto, unfolding(crate::specs::Grammar::byte_of, crate::specs::CodeFound::below, masks::specs::Pick::pick))]
+fn byte(high: u8, low: u8) -> Option<u8>
+    ensures { result ≡ below 256 (byte_of high low) }
 {
-    // each is tested at once: both tested at the end take more instructions
-    let h = nibble(high);
-    if 15 < h {
-        return 256;
+    Some(nibble(high)? * 16 + nibble(low)?)
+}
+
+// The kind of sync that S names.
+#[tactic(auto, unfolding(crate::specs::Grammar::sync_of, masks::specs::Pick::pick))]
+fn sync_kind(kind: u8) -> Option<SyncKind>
+    ensures { sync_of kind ≡ option_map (λ k. Call.Sync k) result }
+{
+    match kind {
+        b'N' => Some(SyncKind::Normal),
+        b'A' => Some(SyncKind::Alarm),
+        _ => None,
     }
-    let l = nibble(low);
-    if 15 < l {
-        return 256;
+}
+
+// The fault that P names.
+#[tactic(auto, unfolding(crate::specs::Grammar::fault_of, masks::specs::Pick::pick))]
+fn fault(kind: u8) -> Option<Fault>
+    ensures { fault_of kind ≡ option_map (λ k. Call.Fault k) result }
+{
+    match kind {
+        b'E' => Some(Fault::Early),
+        b'L' => Some(Fault::Lost),
+        b'I' => Some(Fault::Illegal),
+        b'M' => Some(Fault::Mismatch),
+        _ => None,
     }
-    h * 16 + l
+}
+
+// Any line but a frame's.
+#[tactic(auto, unfolding(crate::specs::Grammar::short_of, crate::specs::Grammar::one_of, crate::specs::Grammar::three_of, crate::specs::Grammar::four_of, crate::specs::Grammar::seven_of, crate::specs::CodeFound::below, masks::specs::Pick::pick))]
+fn short(s: &[u8]) -> Option<Call>
+    ensures { result ≡ short_of s.now }
+{
+    match s {
+        [b'Z'] => Some(Call::Reset),
+        [b'M'] => Some(Call::SyncDue),
+        [b'Q'] => Some(Call::Timeout),
+        [b'S', b'\t', kind] => Some(Call::Sync(sync_kind(*kind)?)),
+        [b'P', b'\t', kind] => Some(Call::Fault(fault(*kind)?)),
+        [b'R', b'\t', high, low] => Some(Call::Read(byte(*high, *low)?)),
+        [b'T', b'\t', high, low] => Some(Call::Slot(byte(*high, *low)?)),
+        [b'W', b'\t', high, low, b'\t', high2, low2] => {
+            Some(Call::Write(byte(*high, *low)?, byte(*high2, *low2)?))
+        }
+        _ => None,
+    }
+}
+
+// A frame without bytes.
+fn no_frame() -> FrameBytes
+    ensures { result ≡ no_frame }
+{
+    FrameBytes {
+        bytes: [0u8; 34],
+        size: 0,
+    }
 }
 
 // A line that brings no frame.
-fn plain(line: Line) -> Parsed
+fn plain(line: Option<Call>) -> Parsed
     ensures { result ≡ plain_of line }
 {
     Parsed {
         line,
-        frame: FrameBytes {
-            bytes: [0u8; 34],
-            size: 0,
-        },
+        frame: no_frame(),
     }
 }
 
-// Z, M and Q.
-fn one(letter: u8) -> Line
-    ensures { result ≡ one_of letter }
+// The verdict: G or B.
+#[tactic(auto, unfolding(crate::specs::CodeFound::verdict_of, masks::specs::Pick::pick))]
+fn verdict(letter: u8) -> Option<bool>
+    ensures { result ≡ verdict_of letter }
 {
-    if letter == b'Z' {
-        return Line::Means(Call::Reset);
+    match letter {
+        b'G' => Some(true),
+        b'B' => Some(false),
+        _ => None,
     }
-    if letter == b'M' {
-        return Line::Means(Call::SyncDue);
-    }
-    if letter == b'Q' {
-        return Line::Means(Call::Timeout);
-    }
-    Line::Unread
 }
 
-// S with its kind.
-fn sync_line(kind: u8) -> Line
-    ensures { result ≡ sync_of kind }
+// The bytes of two digits each that the digits begin with: no line has more than thirty.
+fn frame_bytes(digits: &[u8]) -> FrameBytes
+    ensures { result ≡ frame_in digits.now }
 {
-    if kind == b'N' {
-        return Line::Means(Call::Sync(SyncKind::Normal));
+    let mut bytes = [0u8; 34];
+    let mut rest = digits;
+    for size in 0..30 {
+        let [high, low, after @ ..] = rest else {
+            return FrameBytes { bytes, size };
+        };
+        let Some(value) = byte(*high, *low) else {
+            return FrameBytes { bytes, size };
+        };
+        bytes[size as usize] = value;
+        rest = after;
     }
-    if kind == b'A' {
-        return Line::Means(Call::Sync(SyncKind::Alarm));
-    }
-    Line::Unread
-}
-
-// P with its kind.
-fn fault_line(kind: u8) -> Line
-    ensures { result ≡ fault_of kind }
-{
-    if kind == b'E' {
-        return Line::Means(Call::Fault(Fault::Early));
-    }
-    if kind == b'L' {
-        return Line::Means(Call::Fault(Fault::Lost));
-    }
-    if kind == b'I' {
-        return Line::Means(Call::Fault(Fault::Illegal));
-    }
-    if kind == b'M' {
-        return Line::Means(Call::Fault(Fault::Mismatch));
-    }
-    Line::Unread
-}
-
-// S and P.
-fn three(letter: u8, tab: u8, kind: u8) -> Line
-    ensures { result ≡ three_of letter tab kind }
-{
-    if tab != b'\t' {
-        return Line::Unread;
-    }
-    if letter == b'S' {
-        return sync_line(kind);
-    }
-    if letter == b'P' {
-        return fault_line(kind);
-    }
-    Line::Unread
-}
-
-// R with an address, T with an identifier.
-fn four(letter: u8, tab: u8, high: u8, low: u8) -> Line
-    ensures { result ≡ four_of letter tab high low }
-{
-    if tab != b'\t' {
-        return Line::Unread;
-    }
-    let v = byte(high, low);
-    if 255 < v {
-        return Line::Unread;
-    }
-    if letter == b'R' {
-        return Line::Means(Call::Read(v as u8));
-    }
-    if letter == b'T' {
-        return Line::Means(Call::Slot(v as u8));
-    }
-    Line::Unread
-}
-
-// W with an address and a value.
-fn seven(letter: u8, tab: u8, high: u8, low: u8, tab2: u8, high2: u8, low2: u8) -> Line
-    ensures { result ≡ seven_of letter tab high low tab2 high2 low2 }
-{
-    if letter != b'W' {
-        return Line::Unread;
-    }
-    if tab != b'\t' {
-        return Line::Unread;
-    }
-    if tab2 != b'\t' {
-        return Line::Unread;
-    }
-    let a = byte(high, low);
-    if 255 < a {
-        return Line::Unread;
-    }
-    let v = byte(high2, low2);
-    if 255 < v {
-        return Line::Unread;
-    }
-    Line::Means(Call::Write(a as u8, v as u8))
-}
-
-// F, tab, any byte, tab.
-fn is_frame(s: &[u8]) -> bool
-    ensures { result ≡ is_frame s.now }
-{
-    if s.len() < 4 {
-        return false;
-    }
-    if s[0] != b'F' {
-        return false;
-    }
-    if s[1] != b'\t' {
-        return false;
-    }
-    if s[3] != b'\t' {
-        return false;
-    }
-    true
-}
-
-// Any line but a frame's, by its length.
-fn short(s: &[u8]) -> Line
-    ensures { result ≡ short_of s.now }
-{
-    let n = s.len();
-    if n == 1 {
-        return one(s[0]);
-    }
-    if n == 3 {
-        return three(s[0], s[1], s[2]);
-    }
-    if n == 4 {
-        return four(s[0], s[1], s[2], s[3]);
-    }
-    if n == 7 {
-        return seven(s[0], s[1], s[2], s[3], s[4], s[5], s[6]);
-    }
-    Line::Unread
+    FrameBytes { bytes, size: 30 }
 }
 
 // A frame's digits, two a byte.
-fn decode(good: bool, s: &[u8]) -> Parsed
-    requires { length s.now ≤ 60 }
-    ensures { result ≡ decode_from good no_bytes 0 s.now }
+fn decode(good: bool, digits: &[u8]) -> Parsed
+    requires { length digits.now ≤ 60 }
+    ensures { result ≡ decode_from good no_bytes 0 digits.now }
 {
-    let mut bytes = [0u8; 34];
-    let mut at = 0;
-    let mut i: u8 = 0;
-    while at < s.len() {
-        if s.len() - at < 2 {
-            return plain(Line::Unread);
-        }
-        let v = byte(s[at], s[at + 1]);
-        if 255 < v {
-            return plain(Line::Unread);
-        }
-        bytes[i as usize] = v as u8;
-        at += 2;
-        i += 1;
+    let frame = frame_bytes(digits);
+    if digits.len() != 2 * frame.size as usize {
+        return unread();
     }
     Parsed {
-        line: Line::Means(Call::Frame(good)),
-        frame: FrameBytes { bytes, size: i },
+        line: Some(Call::Frame(good)),
+        frame,
     }
 }
 
 // A frame's line behind its verdict.
-fn frame(verdict: u8, s: &[u8]) -> Parsed
-    requires { length s.now ≤ 60 }
-    ensures { result ≡ frame_line verdict s.now }
+#[tactic(auto, unfolding(crate::specs::Grammar::frame_line, crate::specs::CodeFound::verdict_of, masks::specs::Pick::pick))]
+fn frame(letter: u8, digits: &[u8]) -> Parsed
+    requires { length digits.now ≤ 60 }
+    ensures { result ≡ frame_line letter digits.now }
 {
-    if verdict == b'G' {
-        return decode(true, s);
+    match verdict(letter) {
+        Some(good) => decode(good, digits),
+        None => unread(),
     }
-    if verdict == b'B' {
-        return decode(false, s);
-    }
-    plain(Line::Unread)
 }
 
 // The step that a line without its LF is.
+#[tactic(auto, unfolding(crate::specs::Grammar::line_of, crate::specs::Grammar::is_frame, masks::specs::Pick::pick))]
 pub fn parse(s: &[u8]) -> Parsed
     ensures { result ≡ line_of s.now }
 {
     if 64 < s.len() {
-        return plain(Line::Unread);
+        return unread();
     }
-    if is_frame(s) {
-        return frame(s[2], &s[4..]);
+    match s {
+        [b'F', b'\t', letter, b'\t', digits @ ..] => frame(*letter, digits),
+        _ => plain(short(s)),
     }
-    plain(short(s))
 }
 
 // A line that is no step.
 pub fn unread() -> Parsed
-    ensures { result ≡ plain_of Line.Unread }
+    ensures { result ≡ plain_of None }
 {
-    plain(Line::Unread)
+    plain(None)
 }

@@ -31,6 +31,7 @@ impl Locks {
     }
 
     // The kind has holder and contender: no further lock is taken.
+    #[tactic(auto, unfolding(crate::specs::Pair::is_full))]
     pub fn is_full(self) -> bool
         ensures { result ≡ is_full self }
     {
@@ -39,6 +40,7 @@ impl Locks {
 
     // Buffer n is locked: it is holder or contender. The numbers are compared as they stand, so NONE is one of the two
     // wherever one is missing.
+    #[tactic(auto, unfolding(crate::specs::Pair::in_pair))]
     pub fn holds(self, n: u8) -> bool
         ensures { result ≡ in_pair self n }
     {
@@ -58,6 +60,7 @@ impl Locks {
 
     // The locks after buffer n is locked: it is the holder where there is none, else the contender, in place of one that was
     // there. Ask `is_full` first.
+    #[tactic(auto, unfolding(crate::specs::Pair::take_lock, masks::specs::Pick::pick))]
     pub fn take(self, n: u8) -> Locks
         ensures { result ≡ take_lock self n }
     {
@@ -72,6 +75,7 @@ impl Locks {
 
     // The locks after buffer n is released: a released holder's contender becomes holder. The same locks where n is
     // neither of the two.
+    #[tactic(auto, unfolding(crate::specs::Pair::release_lock, masks::specs::Pick::pick))]
     pub fn release(self, n: u8) -> Locks
         ensures { result ≡ release_lock self n }
     {

@@ -1,10 +1,10 @@
 -- The searches over the sixteen buffers: lowest, highest, some and count of a test.
-use Rattle.std.specs.Prelude.{ℕ, zero, suc, ◌+◌, ◌-◌, ◌<◌, ◌≤◌, Bool, true, false, not, ◌||◌, ◌≡◌, refl, eqb}
-use Rattle.std.proofs.Common.{ap, ap₂, sym, ◌∙◌, arith, le_refl, add-one, eqb-true}
+use Rattle.std.specs.Prelude.{ℕ, zero, suc, ◌+◌, ◌-◌, ◌<◌, ◌≤◌, Bool, true, false, not, ◌||◌, ◌≡◌, refl, eqb, ltb, Option, Some, None}
+use Rattle.std.proofs.Common.{ap, ap₂, sym, ◌∙◌, arith, le_refl, add-one, eqb-true, lt-ltb, ltb-false}
 use Rattle.std.proofs.lemmas.Bool.{eqb-false}
 use Rattle.masks.specs.Pick.{pick}
 use Rattle.masks.specs.PickLaws.{pick_true, pick-false, pick-keeps, by-test}
-use Rattle.masks.specs.Bits.{bit_of, mask_of, lowest, highest, some_of, count_of}
+use Rattle.masks.specs.Bits.{bit_of, mask_of, lowest, highest, buffer_of, number_in, some_of, count_of}
 use Rattle.masks.specs.Laws.{bit-none, bit_mask, mask-ext}
 
 -- true is not false
@@ -121,6 +121,22 @@ highest-miss f k h e = highest-step f k h ∙ pick-false (f (k - 1)) (k - 1) (hi
 pub highest-end : (f : ℕ → Bool) → highest f 0 ≡ 16
 unfolding highest
 highest-end f = refl
+
+-- ---- what is found, as a buffer or none
+
+pub found : (n : ℕ) → n < 16 → Some n ≡ buffer_of n
+unfolding buffer_of
+found n h = sym (pick_true (ltb n 16) (Some n) None (lt-ltb n 16 h))
+
+pub none-found : None ≡ buffer_of 16
+unfolding buffer_of pick
+none-found = refl
+
+pub number-found : (n : ℕ) → n ≤ 16 → number_in (buffer_of n) ≡ n
+unfolding buffer_of
+number-found n h =
+    pick-keeps (λ (b : Option ℕ). number_in b ≡ n) (ltb n 16) (λ t. refl)
+    (λ t. let past = ltb-false n 16 t in omega arith)
 
 -- ---- some
 

@@ -65,10 +65,11 @@ pub fn any(m: u16) -> bool
 }
 
 // The lowest buffer of the mask, or NONE. Its number is the count of the zeros below its bit; an empty mask has sixteen.
+// No Option, here and below: $0A and $0B read $10 where there is none.
 pub fn lowest_of(m: u16) -> u8
     ensures { result ≡ lowest (bit_of m) 0 16 }
 {
-    u16::trailing_zeros(m) as u8
+    m.trailing_zeros() as u8
 }
 
 // The highest buffer of the mask, or NONE. Its number and the count of the zeros above its bit make 15.
@@ -78,7 +79,7 @@ pub fn highest_of(m: u16) -> u8
     if m == 0 {
         NONE
     } else {
-        (15 - u16::leading_zeros(m)) as u8
+        (15 - m.leading_zeros()) as u8
     }
 }
 
@@ -86,5 +87,5 @@ pub fn highest_of(m: u16) -> u8
 pub fn count(m: u16) -> u8
     ensures { result ≡ count_of (bit_of m) 16 }
 {
-    u16::count_ones(m) as u8
+    m.count_ones() as u8
 }

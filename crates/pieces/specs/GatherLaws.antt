@@ -8,7 +8,7 @@ use Rattle.masks.specs.Pick.{pick}
 use Rattle.masks.specs.PickLaws.{pick_true, pick-false, pick-keeps, by-test}
 use Rattle.pieces.specs.declared.Held.{Held}
 use Rattle.pieces.specs.declared.Gathered.{Gathered}
-use Rattle.pieces.specs.Feed.{Feed, push_of, line_in, is_read, end_line, byte_s, byte_o, feed_end, out_of}
+use Rattle.pieces.specs.Feed.{Feed, none_held, push_of, line_in, is_read, end_line, byte_s, byte_o, feed_end, out_of}
 use Rattle.pieces.specs.FeedLaws.{end_of-more, out_of-more}
 use Rattle.pieces.specs.CodeGather.{gather_from, gather_of, Clear}
 
@@ -29,6 +29,29 @@ push-full bytes len b h = pick-false _ _ _ (le-ltb len 64 h)
 pub from_end : (h : Held) (t : List ℕ) (i stop : ℕ) → stop ≤ i → gather_from h t i (stop - i) ≡ record { held = h; at = i; ended = false }
 unfolding gather_from
 from_end h t i stop l = let z : stop - i ≡ 0 = omega arith in ap (gather_from h t i) z
+
+-- gathering up to index stop ends there, or at an index beyond it where it begins
+pub ends-at : (h h' : Held) (t : List ℕ) (i stop last : ℕ) {from : ℕ} → last ≡ max stop from → (from ≤ stop → i ≤ stop) → stop ≤ i →
+    (gather_from h t from (stop - from)).at ≡ (gather_from h' t i (stop - i)).at → i ≡ last
+ends-at h h' t i stop last {from} e within past inv =
+    by-test (ltb stop from)
+    (λ q.
+    let l : stop < from = ltb-true stop from q in
+    let k : (gather_from h t from (stop - from)).at ≡ from = ap (λ (g : Gathered). g.at) (from_end h t from stop (omega arith)) in
+    let m : (gather_from h' t i (stop - i)).at ≡ i = ap (λ (g : Gathered). g.at) (from_end h' t i stop past) in
+    omega arith)
+    (λ q. let l : from ≤ stop = ltb-false stop from q in omega (arith, within l))
+
+pub stopped-at : (t : List ℕ) (i stop last : ℕ) {from : ℕ} → last ≡ max stop from → (from ≤ stop → i ≤ stop) → stop ≤ i →
+    (gather_from none_held t from (stop - from)).at ≡ (gather_from none_held t i (stop - i)).at → last ≡ (gather_from none_held t from (stop - from)).at
+stopped-at t i stop last e within past inv =
+    sym (inv ∙ ap (λ (g : Gathered). g.at) (from_end none_held t i stop past) ∙ ends-at none_held none_held t i stop last e within past inv)
+
+pub gathered-all : (h h' : Held) (t : List ℕ) (i stop last : ℕ) {from : ℕ} → last ≡ max stop from → (from ≤ stop → i ≤ stop) → stop ≤ i →
+    gather_from h t from (stop - from) ≡ gather_from h' t i (stop - i) → record { held = h'; at = last; ended = false } ≡ gather_from h t from (stop - from)
+gathered-all h h' t i stop last e within past inv =
+    sym (inv ∙ from_end h' t i stop past
+    ∙ ap (λ (n : ℕ). record { held = h'; at = n; ended = false }) (ends-at h h' t i stop last e within past (ap (λ (g : Gathered). g.at) inv)))
 
 pub from-lf : (h : Held) (t : List ℕ) (i stop : ℕ) → i < stop → get_or t i 0 ≡ 10 → gather_from h t i (stop - i) ≡ record { held = h; at = i; ended = true }
 unfolding gather_from

@@ -1,6 +1,7 @@
 -- definitions
 pub mod Lines
 pub mod Feed
+pub mod Feeding
 -- nothing to believe: laws, and the code's own definitions
 pub mod FeedLaws
 pub mod HoldLaws
@@ -9,3 +10,4 @@ pub mod PartLaws
 pub mod CodeGather
 pub mod GatherLaws
 pub mod TakenLaws
+pub mod FeedingLaws

@@ -7,7 +7,7 @@ use Rattle.pieces.specs.Feed.{Feed, feed_end, out_of, last_of, stream_of, fed_wh
 use Rattle.pieces.specs.WholeLaws.{stream-joined}
 
 -- where k bytes of a piece were taken, the rest of it is still to be fed
-rest-joined : (k : ℕ) (piece later : List ℕ) → take k piece ++ (drop k piece ++ later) ≡ piece ++ later
+pub rest-joined : (k : ℕ) (piece later : List ℕ) → take k piece ++ (drop k piece ++ later) ≡ piece ++ later
 rest-joined k piece later = sym (append_assoc (take k piece) (drop k piece) later) ∙ ap (λ (l : List ℕ). l ++ later) (take-append-drop k piece)
 
 module _ {S : Type 0} (act : S → ℕ → List ℕ → S) (show : S → ℕ → Bool → List ℕ → List ℕ) where

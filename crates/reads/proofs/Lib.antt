@@ -1,1 +1,1 @@
-mod AddressLaws
+pub mod FlagLaws

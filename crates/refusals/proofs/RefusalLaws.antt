@@ -1,7 +1,6 @@
--- Laws for the refusals: what an `||` or `&&` of the code joins, the numbers in their order, the buffers that FSIZ moves.
+-- Laws for the refusals: the numbers in their order, and the buffers that FSIZ moves.
 use Prim.Native.Nat.{ℕ, ◌+◌, ◌-◌, ◌<◌, ◌≤◌}
 use mathlib.Core.Bool.{Bool, true, false, not, ◌&&◌, ◌||◌, beq}
-use mathlib.Core.Logic.{◌⊎◌, ⊎_elim}
 use mathlib.Core.Path.{◌≡◌, refl, ap, ap₂, sym, ◌∙◌, subst}
 use native.Mathlib.Omega.{arith}
 use borrow.Author.Tests.{ne_eqb, lt-ltb, le-ltb, le-leb, lt-leb, ltb-true, ltb-false}
@@ -21,34 +20,6 @@ use Rattle.rules.specs.Writes.{cfg_after}
 use Rattle.rules.specs.Waiting.{asleep}
 use Rattle.rules.specs.Refusals.{refuses1, refuses2, refuses3, only_in_init, refuses4, refuses5, refuses6, moved_by_fsiz, moved_by_cfg, refuses7, refuses8, new_lock, not_oldest, refuses9, no_lock_left, refuses10, first_of, read_refusal, write_refusal}
 use Rattle.refusals.specs.Code.{lock_refusal, control_refusal, low_refusal, late_refusal}
-
--- ---- where the two ways of a test join
-
--- the value of `x || y`: x where it holds, else y
-pub or-joined : {P Q : Type 0} {x y r : Bool} → P ⊎ Q → (P → (x ≡ true) × (r ≡ x)) → (Q → (x ≡ false) × (r ≡ y)) → r ≡ (x || y)
-or-joined {x = x} {y = y} w p q =
-    ⊎_elim
-    (λ t. (p t).1 ∙ (p t).0 ∙ sym (ap (λ (b : Bool). b || y) (p t).0))
-    (λ e. (q e).1 ∙ sym (ap (λ (b : Bool). b || y) (q e).0))
-    w
-
--- the value of `x && y`: y where x holds, else x
-pub and-joined : {P Q : Type 0} {x y r : Bool} → P ⊎ Q → (P → (x ≡ true) × (r ≡ y)) → (Q → (x ≡ false) × (r ≡ x)) → r ≡ (x && y)
-and-joined {x = x} {y = y} w p q =
-    ⊎_elim
-    (λ t. (p t).1 ∙ sym (ap (λ (b : Bool). b && y) (p t).0))
-    (λ e. (q e).1 ∙ (q e).0 ∙ sym (ap (λ (b : Bool). b && y) (q e).0))
-    w
-
--- ---- `!`
-
-pub not-true : (t : Bool) → not t ≡ true → t ≡ false
-not-true true e = sym e
-not-true false e = refl
-
-pub not-false : (t : Bool) → not t ≡ false → t ≡ true
-not-false true e = refl
-not-false false e = sym e
 
 -- ---- the numbers in their order
 
@@ -184,3 +155,6 @@ module _ (c : Control) (n v : ℕ) where
       ∙ ap₂ (λ (t : Bool) (k : ℕ). pick t 1 k) past-last
       (ap₂ (λ (t : Bool) (k : ℕ). pick t 2 k) sleeping
       (control-order c (0x50 + n) v (omega arith) ∙ ap (λ (k : ℕ). control_refusal c k v) (omega arith)))
+
+-- what the code's functions ask for
+pub ruleset orders = (read-order, low-write, window-write, control-write)

@@ -8,7 +8,7 @@ use Rattle.rules.specs.declared.Control.{Control}
 use Rattle.rules.specs.Registers.{has, LOCK}
 use Rattle.rules.specs.Kinds.{is_transmit, is_locked, is_oldest}
 use Rattle.rules.specs.Writes.{cfg_after}
-use Rattle.rules.specs.Refusals.{refuses6, moved_by_fsiz, refuses7, refuses8, refuses9, refuses10, first_of}
+use Rattle.rules.specs.Refusals.{refuses2, refuses3, refuses4, refuses5, refuses6, moved_by_fsiz, refuses7, refuses8, refuses9, refuses10, first_of}
 
 -- 9 and 10, where buffer n, which is not locked, is locked, and its CFG is then cfg
 unfoldable pub lock_refusal : Control → ℕ → Bool → ℕ
@@ -21,6 +21,10 @@ unfoldable pub control_refusal : Control → ℕ → ℕ → ℕ
 control_refusal c n v =
     pick (is_locked c n) (pick (not (beq (cfg_after c n v) (is_transmit c n))) 7 0)
     (pick (has v LOCK) (lock_refusal c n (cfg_after c n v)) 0)
+
+-- 2 to 5, which look at no written value
+unfoldable pub address_refusal : Control → ℕ → ℕ
+address_refusal c a = pick (refuses2 c a) 2 (pick (refuses3 a) 3 (pick (refuses4 c a) 4 (pick (refuses5 c a) 5 0)))
 
 -- 6 to 8, where v is written to another register
 unfoldable pub low_refusal : Control → ℕ → ℕ → ℕ

@@ -1,23 +1,33 @@
-// The refusals of register calls: each as a test, and the lowest number that applies. Those of the control registers, which test
-// code writes most, are judged in one pass.
+// The refusals of register calls: each as a test, and the first that applies. Those of the control registers, which test code writes
+// most, are judged in one pass.
 #![tactic(auto)]
 
 ghost use Rattle.std.specs.Prelude.{ℕ, ◌+◌, ◌%◌, ◌≤◌, ◌<◌, ◌&&◌, ◌≡◌, eqb};
 ghost use Rattle.masks.specs.Bits.{some_of};
-ghost use Rattle.rules.specs.Registers.{between};
-ghost use Rattle.rules.specs.Refusals.{refuses2, refuses3, only_in_init, refuses4, refuses5, refuses6, moved_by_fsiz, refuses8, read_refusal, write_refusal};
-ghost use Rattle.refusals.specs.Code.{lock_refusal, control_refusal, low_refusal};
+ghost use Rattle.masks.specs.Pick.{pick};
+ghost use Rattle.rules.specs.Refusals.{refuses2, refuses3, only_in_init, refuses4, refuses5, refuses6, moved_by_fsiz, refuses8, read_refusal, write_refusal, refusal_number, number_of};
+ghost use Rattle.refusals.specs.Code.{lock_refusal, control_refusal, low_refusal, address_refusal};
 
 use kinds::{cfg_after, is_lawful, is_locked, is_oldest, is_transmit, locked_mask};
 use masks::NONE;
-use rules::Control;
 use rules::bits::{INITRQ, LOCK, has};
+use rules::{Control, Refusal};
 use waiting::asleep;
 
-fn between(low: u8, a: u8, high: u8) -> bool
-    ensures { result ≡ between low a high }
+// Err with that refusal where the test holds.
+#[tactic(auto, unfolding(masks::specs::Pick::pick))]
+fn refuse_if(test: bool, r: Refusal) -> Result<(), Refusal>
+    ensures { number_of result ≡ pick test (refusal_number r) 0 }
 {
-    low <= a && a <= high
+    if test { Err(r) } else { Ok(()) }
+}
+
+// 2: asleep, any register but $00.
+#[tactic(auto, unfolding(rules::specs::Refusals::refuses2))]
+fn refuses2(c: Control, a: u8) -> bool
+    ensures { result ≡ refuses2 c a }
+{
+    asleep(c) && a != 0
 }
 
 // 3: a register that only reads.
@@ -25,33 +35,17 @@ fn between(low: u8, a: u8, high: u8) -> bool
 fn refuses3(a: u8) -> bool
     ensures { result ≡ refuses3 a }
 {
-    a == 0x0A || a == 0x0B || a == 0x0E || a == 0x12 || between(0x40, a, 0x4D)
+    matches!(a, 0x0A | 0x0B | 0x0E | 0x12 | 0x40..=0x4D)
 }
 
 #[tactic(auto, unfolding(rules::specs::Refusals::only_in_init))]
 fn only_in_init(a: u8) -> bool
     ensures { result ≡ only_in_init a }
 {
-    between(0x01, a, 0x04)
-        || a == 0x0C
-        || a == 0x0D
-        || a == 0x14
-        || a == 0x15
-        || between(0x30, a, 0x3D)
-}
-
-// 6: FSIZ above 16.
-fn refuses6(a: u8, v: u8) -> bool
-    ensures { result ≡ refuses6 a v }
-{
-    a == 0x01 && 16 < v % 32
-}
-
-// 2: asleep, any register but $00.
-fn refuses2(c: Control, a: u8) -> bool
-    ensures { result ≡ refuses2 c a }
-{
-    asleep(c) && a != 0
+    matches!(
+        a,
+        0x01..=0x04 | 0x0C | 0x0D | 0x14 | 0x15 | 0x30..=0x3D
+    )
 }
 
 // 4: a register that is written in initialization only.
@@ -67,9 +61,19 @@ fn refuses4(c: Control, a: u8) -> bool
 fn refuses5(c: Control, a: u8) -> bool
     ensures { result ≡ refuses5 c a }
 {
-    let tx = c.transmit;
-    let rx = c.receive;
-    between(0x20, a, 0x2D) && !tx.has_holder() || between(0x30, a, 0x3D) && !rx.has_holder()
+    match a {
+        0x20..=0x2D => !c.transmit.has_holder(),
+        0x30..=0x3D => !c.receive.has_holder(),
+        _ => false,
+    }
+}
+
+// 6: FSIZ above 16.
+#[tactic(auto, unfolding(rules::specs::Refusals::refuses6))]
+fn refuses6(a: u8, v: u8) -> bool
+    ensures { result ≡ refuses6 a v }
+{
+    a == 0x01 && 16 < v % 32
 }
 
 // A locked buffer changes its kind where FSIZ becomes s.
@@ -97,113 +101,86 @@ fn refuses8(c: Control, a: u8, v: u8) -> bool
 }
 
 // Where buffer n, which is not locked, is locked, and its CFG is then cfg: 9 for a FIFO buffer that isn't the oldest entry, 10
-// where its kind has holder and contender, 0 for none.
-fn lock_refusal(c: Control, n: u8, cfg: bool) -> u8
-    ensures { result ≡ lock_refusal c n cfg }
+// where its kind has holder and contender.
+#[tactic(auto, unfolding(masks::specs::Pick::pick, crate::specs::Code::lock_refusal))]
+fn lock_refusal(c: Control, n: u8, cfg: bool) -> Result<(), Refusal>
+    ensures { number_of result ≡ lock_refusal c n cfg }
 {
     if cfg {
-        let tx = c.transmit;
-        return if tx.is_full() { 10 } else { 0 };
+        refuse_if(c.transmit.is_full(), Refusal::NoLockLeft)
+    } else if n < c.config.fsiz {
+        refuse_if(!is_oldest(c, n), Refusal::NotOldest)
+    } else {
+        refuse_if(c.receive.is_full(), Refusal::NoLockLeft)
     }
-    if n < c.config.fsiz {
-        return if is_oldest(c, n) { 0 } else { 9 };
-    }
-    let rx = c.receive;
-    if rx.is_full() { 10 } else { 0 }
 }
 
 // The refusals that a write of buffer n's control register can have in an awake module: 7 if it is locked and its kind
-// changes, 9 or 10 if it is not and is to be locked, 0 for none.
-fn control_refusal(c: Control, n: u8, v: u8) -> u8
-    ensures { result ≡ control_refusal c n v }
+// changes, 9 or 10 if it is not and is to be locked.
+#[tactic(auto, unfolding(masks::specs::Pick::pick, crate::specs::Code::control_refusal))]
+fn control_refusal(c: Control, n: u8, v: u8) -> Result<(), Refusal>
+    ensures { number_of result ≡ control_refusal c n v }
 {
     let cfg = cfg_after(c, n, v);
     if is_locked(c, n) {
-        return if cfg != is_transmit(c, n) { 7 } else { 0 };
+        refuse_if(cfg != is_transmit(c, n), Refusal::KindOfLocked)
+    } else if has(v, LOCK) {
+        lock_refusal(c, n, cfg)
+    } else {
+        Ok(())
     }
-    if has(v, LOCK) {
-        return lock_refusal(c, n, cfg);
-    }
-    0
 }
 
-// The refusal of a register read, 0 for none.
-pub fn read_refusal(c: Control, a: u8) -> u8
-    ensures { result ≡ read_refusal c a }
+// Whether a register read is refused.
+#[tactic(auto, using(crate::proofs::RefusalLaws::orders), unfolding(masks::specs::Pick::pick))]
+pub fn read_refusal(c: Control, a: u8) -> Result<(), Refusal>
+    ensures { number_of result ≡ read_refusal c a }
 {
-    if 0x5F < a {
-        return 1;
-    }
-    if refuses2(c, a) {
-        return 2;
-    }
-    0
+    refuse_if(0x5F < a, Refusal::NoRegister)?;
+    refuse_if(refuses2(c, a), Refusal::Asleep)
 }
 
-// Refusals 6 to 8 of a write below $50, 0 for none.
-fn low_refusal(c: Control, a: u8, v: u8) -> u8
-    ensures { result ≡ low_refusal c a v }
+// Refusals 2 to 5 of a write below $50, for which what is written doesn't count. From $20 to $4F, at a window's place or a reserved
+// address, there are no others.
+#[tactic(auto, using(crate::proofs::RefusalLaws::orders), unfolding(masks::specs::Pick::pick, crate::specs::Code::address_refusal))]
+pub fn address_refusal(c: Control, a: u8) -> Result<(), Refusal>
+    ensures early { number_of result ≡ address_refusal c a }
+    ensures window { (v : ℕ) → 0x20 ≤ a → a < 0x50 → number_of result ≡ write_refusal c a v }
 {
-    if refuses6(a, v) {
-        return 6;
-    }
-    if refuses7(c, a, v) {
-        return 7;
-    }
-    if refuses8(c, a, v) {
-        return 8;
-    }
-    0
+    refuse_if(refuses2(c, a), Refusal::Asleep)?;
+    refuse_if(refuses3(a), Refusal::ReadOnly)?;
+    refuse_if(refuses4(c, a), Refusal::OnlyInInit)?;
+    refuse_if(refuses5(c, a), Refusal::NoHolder)
 }
 
-// The refusal of a write of buffer n's control register, 0 for none. From NONE on there is no such register: 1.
-pub fn control_write_refusal(c: Control, n: u8, v: u8) -> u8
-    ensures { result ≡ write_refusal c (0x50 + n) v }
+// Refusals 6 to 8 of a write below $50.
+#[tactic(auto, unfolding(masks::specs::Pick::pick, crate::specs::Code::low_refusal))]
+fn low_refusal(c: Control, a: u8, v: u8) -> Result<(), Refusal>
+    ensures { number_of result ≡ low_refusal c a v }
 {
-    if NONE <= n {
-        return 1;
-    }
-    if asleep(c) {
-        return 2;
-    }
+    refuse_if(refuses6(a, v), Refusal::FsizAbove16)?;
+    refuse_if(refuses7(c, a, v), Refusal::KindOfLocked)?;
+    refuse_if(refuses8(c, a, v), Refusal::UnlawfulLayout)
+}
+
+// Whether a write of buffer n's control register is refused. From NONE on there is no such register: 1.
+#[tactic(auto, using(crate::proofs::RefusalLaws::orders), unfolding(masks::specs::Pick::pick))]
+pub fn control_write_refusal(c: Control, n: u8, v: u8) -> Result<(), Refusal>
+    ensures { number_of result ≡ write_refusal c (0x50 + n) v }
+{
+    refuse_if(NONE <= n, Refusal::NoRegister)?;
+    refuse_if(asleep(c), Refusal::Asleep)?;
     control_refusal(c, n, v)
 }
 
-// The refusal of a write from $20 to $4F, a window's place or a reserved address, 0 for none: what is written doesn't count.
-pub fn window_refusal(c: Control, a: u8) -> u8
-    ensures { (v : ℕ) → 0x20 ≤ a → a < 0x50 → result ≡ write_refusal c a v }
-{
-    if refuses2(c, a) {
-        2
-    } else if refuses3(a) {
-        3
-    } else if refuses4(c, a) {
-        4
-    } else if refuses5(c, a) {
-        5 // nobody holds it
-    } else {
-        0
-    }
-}
-
-// The refusal of a register write, 0 for none.
-pub fn write_refusal(c: Control, a: u8, v: u8) -> u8
-    ensures { result ≡ write_refusal c a v }
+// Whether a register write is refused.
+#[tactic(auto, using(crate::proofs::RefusalLaws::orders), unfolding(masks::specs::Pick::pick, crate::specs::Code::address_refusal))]
+pub fn write_refusal(c: Control, a: u8, v: u8) -> Result<(), Refusal>
+    ensures { number_of result ≡ write_refusal c a v }
 {
     if 0x50 <= a {
         return control_write_refusal(c, a - 0x50, v);
     }
-    if refuses2(c, a) {
-        return 2;
-    }
-    if refuses3(a) {
-        return 3;
-    }
-    if refuses4(c, a) {
-        return 4;
-    }
-    if refuses5(c, a) {
-        return 5;
-    }
+    address_refusal(c, a)?;
     low_refusal(c, a, v)
 }

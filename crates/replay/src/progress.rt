@@ -1,10 +1,10 @@
 // How many lines were read so far, on standard error where that is a terminal, and never otherwise.
-use crate::console::{Source, say};
+use console::Source;
 use std::io::IsTerminal;
 use std::rt::Clock;
 
 // Whether it is shown at all, whether it stands on the terminal now, whether rows go there too; when it was shown last, and how many
-// lines there were.
+// lines there were. Flags and no enum: each of the three is asked by itself.
 #[derive(Clone, Copy)]
 pub(crate) struct Progress {
     on: bool,
@@ -16,16 +16,13 @@ pub(crate) struct Progress {
 
 // The clock's second, which only has to change: 0 where there is no clock.
 fn now(rt: &impl Clock) -> u64 {
-    match rt.since_1970() {
-        Ok(time) => time.as_secs(),
-        Err(_) => 0,
-    }
+    rt.since_1970().map_or(0, |time| time.as_secs())
 }
 
 // Where the recording is typed in, none is shown: it would stand where the next line is typed.
 pub(crate) fn start(rt: &HostRuntime, input: &Source) -> Progress {
     Progress {
-        on: rt.stderr().is_terminal() && !input.is_typed(),
+        on: rt.stderr().is_terminal() && !input.is_terminal(),
         stands: false,
         shared: rt.stdout().is_terminal(),
         second: now(rt),
@@ -33,15 +30,14 @@ pub(crate) fn start(rt: &HostRuntime, input: &Source) -> Progress {
     }
 }
 
-// Takes it off the terminal, for a message or for rows.
+// Takes it off the terminal, for a message or for rows. Functions, here and below, that give the next state: who looks on keeps it beside
+// the runtime.
 pub(crate) fn cleared(rt: &impl Eprint, p: Progress) -> Progress {
     if !p.stands {
         return p;
     }
-    say(rt, "                                        \r");
-    let mut next = p;
-    next.stands = false;
-    next
+    let _ = rt.eprint("                                        \r");
+    Progress { stands: false, ..p }
 }
 
 // Takes it off for rows.
@@ -55,18 +51,15 @@ pub(crate) fn after(rt: &HostRuntime, p: Progress, lines: u32) -> Progress {
         return p;
     }
     let second = now(rt);
-    if second == p.second {
-        if lines / 100000 == p.lines / 100000 {
-            return p;
-        }
+    if second == p.second && lines / 100000 == p.lines / 100000 {
+        return p;
     }
     // the next message begins where this one does, and is longer
-    say(rt, format_args!("hevrukan: lines so far: {lines}\r"));
+    let _ = eprint!(rt; "hevrukan: lines so far: {lines}\r");
     Progress {
-        on: true,
         stands: true,
-        shared: p.shared,
         second,
         lines,
+        ..p
     }
 }

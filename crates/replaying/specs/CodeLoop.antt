@@ -1,6 +1,6 @@
 -- The loop over a piece's lines: where it stands, and what its functions promise. The session at the piece's start and the room at that
 -- time are s₀ and out₀; the functions are not given them, so a promise is for any.
-use Rattle.std.specs.Prelude.{ℕ, suc, ◌+◌, ◌-◌, ◌≤◌, ◌<◌, ◌≡◌, Bool, true, false, ◌&&◌, List, [], ◌∷◌, ◌⊎◌, length, take, drop, set, replicate, ltb, leb}
+use Rattle.std.specs.Prelude.{ℕ, ◌+◌, ◌≤◌, ◌<◌, ◌≡◌, Bool, true, false, ◌&&◌, List, [], ◌∷◌, ◌⊎◌, length, take, drop, set, replicate, ltb, leb, Option, Some, None}
 use Rattle.masks.specs.Pick.{pick}
 use Rattle.rules.specs.declared.Answer.{Answer}
 use Rattle.rules.specs.Answers.{word_of, detail_of}
@@ -11,7 +11,7 @@ use Rattle.controller.specs.declared.Answered.{Answered}
 use Rattle.report.specs.declared.Number.{Number}
 use Rattle.lines.specs.declared.Found.{Found}
 use Rattle.lines.specs.Grammar.{line_of}
-use Rattle.lines.specs.Found.{none_found, found_at}
+use Rattle.lines.specs.Found.{found_at}
 use Rattle.report.specs.Text.{Put, Wrote, fitting, word_text, unread_text, detail_text}
 use Rattle.report.specs.CodeNumbers.{number_of, next_number, numbered_row}
 use Rattle.pieces.specs.declared.Held.{Held}
@@ -20,7 +20,7 @@ use Rattle.pieces.specs.CodeGather.{gather_of}
 use Rattle.replaying.specs.declared.Player.{Player}
 use Rattle.replaying.specs.declared.Tally.{Tally}
 use Rattle.replaying.specs.declared.Session.{Session}
-use Rattle.replaying.specs.declared.Fed.{Fed}
+use Rattle.pieces.specs.declared.Fed.{Fed}
 use Rattle.replaying.specs.declared.At.{At}
 use Rattle.replaying.specs.declared.Joined.{Joined}
 use Rattle.replaying.specs.Session.{feed_of}
@@ -43,13 +43,13 @@ need_of false = 0
 
 -- ---- where the loop stands, as values
 
--- a line begins at index next of a piece of `end` bytes, and a room of `size` bytes has place for what is shown of it
-unfoldable pub goes_on : Bool → ℕ → ℕ → ℕ → ℕ → Bool
-goes_on rows next written end size = ltb next end && leb (written + need_of rows) size
+-- a line begins there in a piece of `end` bytes, and a room of `size` bytes has place for what is shown of it
+unfoldable pub goes_on : At → ℕ → ℕ → Bool
+goes_on t end size = ltb t.from end && leb (t.written + need_of t.rows) size
 
 -- past the LF, at the next line
-abbrev pub passes : At → ℕ → ℕ → Tally → ℕ → ℕ → ℕ → At
-passes t next irq tally written end size =
+abbrev pub passes : At → ℕ → ℕ → Tally → ℕ → At
+passes t next irq tally written =
     record {
       digits = next_number t.digits (number_after t.number);
       from = next;
@@ -57,20 +57,19 @@ passes t next irq tally written end size =
       tally = tally;
       number = number_after t.number;
       irq = irq;
-      more = goes_on t.rows next written end size;
       rows = t.rows;
     }
 
-abbrev pub stops : At → At
-stops t =
+-- at index at of the same piece or of another
+abbrev pub reaches : At → ℕ → At
+reaches t at =
     record {
       digits = t.digits;
-      from = t.from;
+      from = at;
       written = t.written;
       tally = t.tally;
       number = t.number;
       irq = t.irq;
-      more = false;
       rows = t.rows;
     }
 
@@ -87,16 +86,8 @@ unfoldable pub counted_of : Tally → Answer → Tally
 counted_of k a = record { unread = k.unread; refused = pick (is_refused a) (number_after k.refused) k.refused }
 
 -- the step of the line where the loop stands; none past the last line that is read
-unfoldable pub sought_of : List ℕ → At → Found
-sought_of piece t = pick (is_read t.number) (found_at piece t.from) none_found
-
--- how far the loop is from its end; nothing is left once it doesn't go on
-abbrev left_by : Bool → ℕ → ℕ
-left_by true n = suc n
-left_by false n = 0
-
-abbrev pub left : ℕ → At → ℕ
-left end t = left_by t.more (end - t.from)
+unfoldable pub sought_of : List ℕ → At → Option Found
+sought_of piece t = pick (is_read t.number) (found_at piece t.from) None
 
 -- at the first line's first byte
 abbrev pub opened : Session → Bool → At
@@ -108,26 +99,11 @@ opened s rows =
       tally = s.player.tally;
       number = s.number;
       irq = lines_of s.player.controller.control;
-      more = true;
       rows = rows;
     }
 
--- at index from of another text
-abbrev pub resumed : At → ℕ → ℕ → ℕ → At
-resumed t from end size =
-    record {
-      digits = t.digits;
-      from = from;
-      written = t.written;
-      tally = t.tally;
-      number = t.number;
-      irq = t.irq;
-      more = goes_on t.rows from t.written end size;
-      rows = t.rows;
-    }
-
 -- the session there, with so much held of the next line
-abbrev pub closed : Controller → At → Held → ℕ → Fed
+abbrev pub closed : Controller → At → Held → ℕ → Fed Session
 closed c t h taken =
     record {
       session = record { player = record { controller = c; tally = t.tally }; held = h; number = t.number };
@@ -141,14 +117,14 @@ closed c t h taken =
 abbrev pub end_at : List ℕ → ℕ → ℕ
 end_at piece from = (gather_of none_held piece from (length piece)).at
 
--- `unread_line`
-pub record Unreads (piece out : List ℕ) (t r : At) (out' : List ℕ) : Type 0 where
-  pub unended : length piece ≤ end_at piece t.from → (r ≡ stops t) × (out' ≡ out)
+-- `unread_line`: none where the line doesn't end in the piece
+pub record Unreads (piece out : List ℕ) (t : At) (r : Option At) (out' : List ℕ) : Type 0 where
+  pub unended : length piece ≤ end_at piece t.from → (r ≡ None) × (out' ≡ out)
   pub past : end_at piece t.from < length piece → is_read t.number ≡ false →
-      (r ≡ passes t (end_at piece t.from + 1) t.irq t.tally t.written (length piece) (length out)) × (out' ≡ out)
+      (r ≡ Some (passes t (end_at piece t.from + 1) t.irq t.tally t.written)) × (out' ≡ out)
   pub shown : end_at piece t.from < length piece → is_read t.number ≡ true →
-      (r ≡ passes t (end_at piece t.from + 1) t.irq (unread_of t.tally) r.written (length piece) (length out))
-      × Put out t.written (shown_if t.rows (fitting out t.written (numbered_row t.digits unread_text (45 ∷ []) t.irq 0))) out' r.written
+      (w : ℕ) × (r ≡ Some (passes t (end_at piece t.from + 1) t.irq (unread_of t.tally) w))
+      × Put out t.written (shown_if t.rows (fitting out t.written (numbered_row t.digits unread_text (45 ∷ []) t.irq 0))) out' w
 
 -- the row of an answer, out of the room that its step left
 abbrev pub answer_row : Number → Answered → List ℕ → ℕ → List ℕ
@@ -156,15 +132,10 @@ answer_row x a room irq =
     numbered_row x (word_text (word_of a.answer)) (detail_text (detail_of a.answer (take 14 (take (sent_size a.answer (length room)) room)))) irq a.looked
 
 -- `answered`, at the LF at index at
-pub record Answers (room : List ℕ) (end : ℕ) (out : List ℕ) (t : At) (at : ℕ) (a : Answered) (irq : ℕ) (r : At) (room' out' : List ℕ) : Type 0 where
-  pub passed : r ≡ passes t (at + 1) irq (counted_of t.tally a.answer) r.written end (length out)
+pub record Answers (room out : List ℕ) (t : At) (at : ℕ) (a : Answered) (irq : ℕ) (r : At) (room' out' : List ℕ) : Type 0 where
+  pub passed : r ≡ passes t (at + 1) irq (counted_of t.tally a.answer) r.written
   pub put : Put out t.written (shown_if t.rows (fitting out t.written (answer_row t.digits a room irq))) out' r.written
   pub clear : room' ≡ cleared_by a.answer room
-
--- `turned`: the step f was answered, or there is none
-pub record Turned (room piece out : List ℕ) (t : At) (f : Found) (a : Answered) (irq : ℕ) (r : At) (room' out' : List ℕ) : Type 0 where
-  pub none : f.at ≡ 0 → Unreads piece out t r out' × (room' ≡ room)
-  pub step : 0 < f.at → f.at < length piece → Answers room (length piece) out t f.at a irq r room' out'
 
 -- ---- where the loop stands
 
@@ -189,29 +160,24 @@ pub record Open (s₀ : Feed Player) (piece out₀ : List ℕ) (c : Controller) 
 abbrev pub Over : List ℕ → ℕ → At → Type 0
 Over piece size t = (end_at piece t.from ≡ length piece) ⊎ (size < t.written + need_of t.rows)
 
--- at the start of a line
-pub record Standing (s₀ : Feed Player) (piece out₀ : List ℕ) (c : Controller) (t : At) (out : List ℕ) : Type 0 where
-  pub reached : Open s₀ piece out₀ c none_held t out
-  pub ready : t.more ≡ true → t.written + need_of t.rows ≤ length out₀
-  pub over : t.more ≡ false → Over piece (length out₀) t
-
--- `line_in_place`: a line done with
-pub record Turns (c : Controller) (room piece out : List ℕ) (t r : At) (c' : Controller) (room' out' : List ℕ) : Type 0 where
-  pub ahead : r.more ≡ true → t.from < r.from
-  pub short : r.more ≡ true → r.from < length piece
-  pub rows : r.rows ≡ t.rows
+-- `line_in_place`: a line done with, or none where it doesn't end in the piece
+pub record Turns (c : Controller) (room piece out : List ℕ) (t : At) (r : Option At) (c' : Controller) (room' out' : List ℕ) : Type 0 where
+  pub ahead : (u : At) → r ≡ Some u → t.from < u.from
+  pub rows : (u : At) → r ≡ Some u → u.rows ≡ t.rows
   pub clear : room ≡ replicate 14 0 → room' ≡ replicate 14 0
-  pub stands : room ≡ replicate 14 0 → t.more ≡ true → (s₀ : Feed Player) (out₀ : List ℕ) → Standing s₀ piece out₀ c t out → Standing s₀ piece out₀ c' r out'
+  pub stands : room ≡ replicate 14 0 → t.written + need_of t.rows ≤ length out → (s₀ : Feed Player) (out₀ : List ℕ) → Open s₀ piece out₀ c none_held t out →
+      (u : At) → r ≡ Some u → Open s₀ piece out₀ c' none_held u out'
+  pub over : r ≡ None → (c' ≡ c) × (out' ≡ out) × (length piece ≤ end_at piece t.from)
 
 -- some turns of `lines_in_place`, from t to r
 pub record Played (c : Controller) (room piece out : List ℕ) (t r : At) (c' : Controller) (room' out' : List ℕ) : Type 0 where
   pub rows : r.rows ≡ t.rows
   pub clear : room ≡ replicate 14 0 → room' ≡ replicate 14 0
-  pub stands : room ≡ replicate 14 0 → (s₀ : Feed Player) (out₀ : List ℕ) → Standing s₀ piece out₀ c t out → Standing s₀ piece out₀ c' r out'
+  pub stands : room ≡ replicate 14 0 → (s₀ : Feed Player) (out₀ : List ℕ) → Open s₀ piece out₀ c none_held t out → Open s₀ piece out₀ c' none_held r out'
 
--- `lines_in_place` and `lines_lent`: all of them
+-- `lines_in_place`: all of them
 pub record Plays (c : Controller) (room piece out : List ℕ) (t r : At) (c' : Controller) (room' out' : List ℕ) : Type 0 where
-  pub over : r.more ≡ false
+  pub over : r.from ≤ length piece → Over piece (length out') r
   pub played : Played c room piece out t r c' room' out'
 
 -- `over`: a line over 64 bytes, and its LF
@@ -225,7 +191,7 @@ pub record Joins (h : Held) (r : Joined) : Type 0 where
   pub line : line_of (line_in (gather_of none_held (take r.size r.text) 0 (length (take r.size r.text))).held) ≡ line_of (line_in h)
 
 -- `run`
-pub record FedBy (rows : Bool) (s : Session) (piece out : List ℕ) (r : Fed) (out' : List ℕ) : Type 0 where
+pub record FedBy (rows : Bool) (s : Session) (piece out : List ℕ) (r : Fed Session) (out' : List ℕ) : Type 0 where
   pub taken : r.taken ≡ taken_by rows (length out) (feed_of s) 0 piece
   pub session : feed_of r.session ≡ feed_end play (shown_by rows) (feed_of s) (take r.taken piece)
   pub wrote : Wrote out (out_of play (shown_by rows) (feed_of s) (take r.taken piece)) r.written out'

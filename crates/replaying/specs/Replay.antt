@@ -1,6 +1,6 @@
 -- The replay of a text: the heading, then a row for each line that is read, in terms of the steps of document 01. Lines that
 -- are no step do nothing but have their row.
-use Rattle.std.specs.Prelude.{ℕ, List, ◌++◌, Bool, replicate, eqb}
+use Rattle.std.specs.Prelude.{ℕ, List, ◌++◌, Bool, replicate, eqb, Option, Some, None}
 use Rattle.masks.specs.Pick.{pick}
 use Rattle.rules.specs.declared.Answer.{Answer}
 use Rattle.rules.specs.Answers.{word_of, detail_of, REFUSED}
@@ -11,8 +11,6 @@ use Rattle.lines.specs.declared.FrameBytes.{FrameBytes}
 use Rattle.controller.specs.Carry.{Outcome, reset_state}
 use Rattle.controller.specs.Session.{step_of}
 use Rattle.controller.specs.Calls.{step_for}
-use Rattle.lines.specs.declared.Line.{Line}
-use Rattle.lines.specs.declared.Line.TheVariants.{Means, Unread}
 use Rattle.lines.specs.Grammar.{bytes_in, line_of}
 use Rattle.report.specs.Text.{row_of, unread_row, heading_of}
 use Rattle.pieces.specs.Feed.{Feed, none_held, number_after, whole_of}
@@ -26,8 +24,8 @@ abbrev pub is_refused : Answer → Bool
 is_refused a = eqb (word_of a) REFUSED
 
 -- what a line makes of the player: its step, counted where it is refused, or nothing, counted too
-unfoldable pub played_by : Player → Line → FrameBytes → Player
-played_by p (Means call) f =
+unfoldable pub played_by : Player → Option Call → FrameBytes → Player
+played_by p (Some call) f =
     record {
       controller = (step_of p.controller (step_in call f)).next;
       tally = record {
@@ -35,16 +33,16 @@ played_by p (Means call) f =
         refused = pick (is_refused (step_of p.controller (step_in call f)).answer) (number_after p.tally.refused) p.tally.refused;
       };
     }
-played_by p Unread f = record { controller = p.controller; tally = record { unread = number_after p.tally.unread; refused = p.tally.refused } }
+played_by p None f = record { controller = p.controller; tally = record { unread = number_after p.tally.unread; refused = p.tally.refused } }
 
 -- the row of a step
 unfoldable pub step_row : ℕ → Outcome → List ℕ
 step_row n o = row_of n (word_of o.answer) (detail_of o.answer o.sent) (lines_of o.next.control) o.looked
 
 -- the row of a line
-unfoldable pub row_by : Player → ℕ → Line → FrameBytes → List ℕ
-row_by p n (Means call) f = step_row n (step_of p.controller (step_in call f))
-row_by p n Unread f = unread_row n (lines_of p.controller.control)
+unfoldable pub row_by : Player → ℕ → Option Call → FrameBytes → List ℕ
+row_by p n (Some call) f = step_row n (step_of p.controller (step_in call f))
+row_by p n None f = unread_row n (lines_of p.controller.control)
 
 unfoldable pub play : Player → ℕ → List ℕ → Player
 play p n l = played_by p (line_of l).line (line_of l).frame

@@ -1,10 +1,10 @@
 // The loop over a piece's lines, but for the controller's steps: a line's step is read, and once it is answered the line is done with.
-ghost use Rattle.std.specs.Prelude.{◌≡◌, ◌+◌, ◌≤◌, ◌<◌, [], ◌∷◌, ◌++◌, length, replicate, drop, take, leb};
+ghost use Rattle.std.specs.Prelude.{◌≡◌, ◌+◌, ◌^◌, ◌≤◌, ◌<◌, [], ◌∷◌, ◌++◌, length, replicate, drop, take, leb};
 ghost use Rattle.rules.specs.Answers.{word_of, detail_of};
 ghost use Rattle.report.specs.Text.{Put, fitting, word_text, unread_text, detail_text};
 ghost use Rattle.report.specs.CodeNumbers.{numbered_row};
 ghost use Rattle.replaying.specs.SentLaws.{sent_size};
-ghost use Rattle.replaying.specs.CodeLoop.{shown_if, need_of, goes_on, passes, stops, lines_after, unread_of, counted_of, sought_of, Unreads, Answers, Turned};
+ghost use Rattle.replaying.specs.CodeLoop.{shown_if, need_of, goes_on, passes, lines_after, unread_of, counted_of, sought_of, Unreads, Answers};
 
 use crate::{At, Tally};
 use controller::{Answered, Controller};
@@ -12,21 +12,22 @@ use lines::Found;
 use rules::Answer;
 
 // The step of the line where the loop stands: none past the last line that is read.
-pub(crate) fn seek(piece: &[u8], t: At) -> Found
+#[tactic(auto, unfolding(crate::specs::CodeLoop::sought_of, masks::specs::Pick::pick))]
+pub(crate) fn seek(piece: &[u8], t: At) -> Option<Found>
     ensures { result ≡ sought_of piece.now t }
 {
     if !pieces::is_read(t.number) {
-        return lines::none();
+        return None;
     }
     lines::read(piece, t.from)
 }
 
 // The five lines after an answer: computed anew only where the answer can have changed them.
+#[tactic(auto, unfolding(crate::specs::CodeLoop::lines_after, rules::specs::KeptLinesLaws::keeps_lines, masks::specs::Pick::pick))]
 pub(crate) fn lines_after(c: Controller, a: Answered, irq: u8) -> u8
     ensures { result ≡ lines_after c a.answer irq }
 {
-    let answer = a.answer;
-    match answer {
+    match a.answer {
         Answer::Value(_)
         | Answer::HeldOff(_)
         | Answer::Refused(_)
@@ -44,18 +45,19 @@ fn unread_counted(k: Tally) -> Tally
 {
     Tally {
         unread: pieces::number_after(k.unread),
-        refused: k.refused,
+        ..k
     }
 }
 
 // The tally with an answer counted.
+#[tactic(auto, unfolding(crate::specs::CodeLoop::counted_of, masks::specs::Pick::pick))]
 fn counted(k: Tally, a: Answer) -> Tally
     ensures { result ≡ counted_of k a }
 {
     match a {
         Answer::Refused(_) => Tally {
-            unread: k.unread,
             refused: pieces::number_after(k.refused),
+            ..k
         },
         _ => k,
     }
@@ -65,81 +67,58 @@ fn counted(k: Tally, a: Answer) -> Tally
 pub(crate) fn has_room(rows: bool, written: usize, size: usize) -> bool
     ensures { result ≡ leb (written + need_of rows) size }
 {
-    if !rows {
-        return written <= size;
-    }
-    if size < 64 {
-        return false;
-    }
-    written <= size - 64
+    let need = if rows { 64 } else { 0 };
+    report::has_room(size, written, need)
 }
 
-// A line begins at index next of a piece of so many bytes, and there is room for what is shown of it.
-pub(crate) fn goes_on(rows: bool, next: usize, written: usize, end: usize, size: usize) -> bool
-    ensures { result ≡ goes_on rows next written end size }
+// A line begins there in a piece of so many bytes, and there is room for what is shown of it.
+#[tactic(auto, unfolding(crate::specs::CodeLoop::goes_on))]
+pub(crate) fn goes_on(t: At, end: usize, size: usize) -> bool
+    ensures { result ≡ goes_on t end size }
 {
-    if end <= next {
-        return false;
-    }
-    has_room(rows, written, size)
+    t.from < end && has_room(t.rows, t.written, size)
 }
 
 // Past the line's LF, which stands before index next.
-fn passed(t: At, next: usize, irq: u8, tally: Tally, written: usize, end: usize, size: usize) -> At
-    ensures { result ≡ passes t next irq tally written end size }
+fn passed(t: At, next: usize, irq: u8, tally: Tally, written: usize) -> At
+    ensures { result ≡ passes t next irq tally written }
 {
     let number = pieces::number_after(t.number);
-    let rows = t.rows;
-    let more = goes_on(rows, next, written, end, size);
-    let digits = report::number_next(t.digits, number);
     At {
-        digits,
+        digits: report::number_next(t.digits, number),
         from: next,
         written,
         tally,
         number,
         irq,
-        more,
-        rows,
+        rows: t.rows,
     }
-}
-
-// The loop is over.
-fn stopped(t: At) -> At
-    ensures { result ≡ stops t }
-{
-    let mut last = t;
-    last.more = false;
-    last
 }
 
 // The row of a line that is no step, where rows are written.
 fn put_unread(out: &mut [u8], t: At) -> usize
     ensures { Put out.old t.written (shown_if t.rows (fitting out.old t.written (numbered_row t.digits unread_text (45 ∷ []) t.irq 0))) out.new result }
 {
-    let rows = t.rows;
-    if !rows {
+    if !t.rows {
         return t.written;
     }
     report::unread_row(out, t.written, t.digits, t.irq)
 }
 
 // The line is no step: it is done with if it ends in the piece, and has its row if it is read.
-fn unread_line(piece: &[u8], out: &mut [u8], t: At) -> At
+pub(crate) fn unread_line(piece: &[u8], out: &mut [u8], t: At) -> Option<At>
     ensures { Unreads piece.now out.old t result out.new }
 {
     let end = piece.len();
     let at = pieces::line_end(piece, t.from, end);
     if end <= at {
-        return stopped(t);
+        return None;
     }
-    let irq = t.irq;
-    let tally = t.tally;
     if !pieces::is_read(t.number) {
-        return passed(t, at + 1, irq, tally, t.written, end, out.len());
+        return Some(passed(t, at + 1, t.irq, t.tally, t.written));
     }
     let w = put_unread(out, t);
-    passed(t, at + 1, irq, unread_counted(tally), w, end, out.len())
+    Some(passed(t, at + 1, t.irq, unread_counted(t.tally), w))
 }
 
 // How many of a room's n bytes an answer's row shows.
@@ -147,7 +126,7 @@ fn sent_size(a: Answer, n: usize) -> usize
     ensures { result ≡ sent_size a n }
 {
     match a {
-        Answer::Sent(k) => pieces::least(k as usize, n),
+        Answer::Sent(k) => usize::from(k).min(n),
         _ => 0,
     }
 }
@@ -157,64 +136,33 @@ fn clear(room: &mut [u8], k: usize)
     requires { k ≤ length room.old }
     ensures { room.new ≡ replicate k 0 ++ drop k room.old }
 {
-    let mut i = 0;
-    while i < k {
-        room[i] = 0;
-        i += 1;
-    }
+    room[..k].fill(0);
 }
 
 // The row of a step, where rows are written.
 fn put_row(out: &mut [u8], t: At, a: Answer, sent: &[u8], irq: u8, looked: u8) -> usize
     ensures { Put out.old t.written (shown_if t.rows (fitting out.old t.written (numbered_row t.digits (word_text (word_of a)) (detail_text (detail_of a (take 14 sent.now))) irq looked))) out.new result }
 {
-    let rows = t.rows;
-    if !rows {
+    if !t.rows {
         return t.written;
     }
     report::row(out, t.written, t.digits, a, sent, irq, looked)
 }
 
 // The line's step, whose LF stands at index at, was answered so, with the lines irq after it and the room as it left it: its row.
-fn answered(
+pub(crate) fn answered(
     room: &mut [u8],
-    end: usize,
     out: &mut [u8],
     t: At,
     at: usize,
     a: Answered,
     irq: u8,
 ) -> At
-    requires { at < end }
-    ensures { Answers room.old end out.old t at a irq result room.new out.new }
+    requires { at + 1 < 2 ^ 64 }
+    ensures { Answers room.old out.old t at a irq result room.new out.new }
 {
-    let answer = a.answer;
-    let k = sent_size(answer, room.len());
-    let w = put_row(out, t, answer, &room[..k], irq, a.looked);
+    let k = sent_size(a.answer, room.len());
+    let w = put_row(out, t, a.answer, &room[..k], irq, a.looked);
     clear(room, k);
-    let tally = t.tally;
-    passed(t, at + 1, irq, counted(tally, answer), w, end, out.len())
-}
-
-// The line where the loop stands is done with: its step f was answered so, or it has none.
-pub(crate) fn turned(
-    room: &mut [u8],
-    piece: &[u8],
-    out: &mut [u8],
-    t: At,
-    f: Found,
-    a: Answered,
-    irq: u8,
-) -> At
-    ensures { Turned room.old piece.now out.old t f a irq result room.new out.new }
-{
-    let at = f.at;
-    if at == 0 {
-        return unread_line(piece, out, t);
-    }
-    let end = piece.len();
-    if end <= at {
-        return stopped(t);
-    }
-    answered(room, end, out, t, at, a, irq)
+    passed(t, at + 1, irq, counted(t.tally, a.answer), w)
 }

@@ -6,9 +6,9 @@ use Rattle.report.specs.Laws.{none, fits, tight}
 pub enough : {t : Bool} {m n : ℕ} → t ≡ leb m n → t ≡ true → m ≤ n
 enough {t} {m} {n} e f = leb-true m n (sym e ∙ f)
 
--- the text whole
-pub whole : {t : Bool} {o : List ℕ} {at : ℕ} {xs p : List ℕ} {r : ℕ} → t ≡ leb (at + 64) (length o) → t ≡ true → Put o at xs p r → Put o at (fitting o at xs) p r
-whole {t} {o} {at} {xs} e f q = rw (fits o at xs (enough e f)) q
+-- the text whole, in the room as it is given back
+pub whole : {t : Bool} {o : List ℕ} {at : ℕ} {xs p q : List ℕ} {r : ℕ} → t ≡ leb (at + 64) (length o) → t ≡ true → Put o at xs p r → q ≡ p → Put o at (fitting o at xs) q r
+whole {t} {o} {at} {xs} e f put back = rw (back, fits o at xs (enough e f)) put
 
 -- or nothing
 pub nothing : {t : Bool} {o : List ℕ} {at : ℕ} (xs : List ℕ) → t ≡ leb (at + 64) (length o) → t ≡ false → Put o at (fitting o at xs) o at

@@ -1,100 +1,100 @@
 -- A row's answer and detail in two parts: all but a number in hex, and that number.
-use Rattle.std.specs.Prelude.{◌≡◌, ℕ, ◌≤◌, Bool, true, false, List, [], ◌∷◌, ◌++◌, length, refl}
-use Rattle.std.proofs.lemmas.Bool.{false≢true}
+use Rattle.std.specs.Prelude.{◌≡◌, ℕ, ◌≤◌, Option, None, Some, List, [], ◌∷◌, ◌++◌, length, refl}
+use Rattle.std.specs.Option.{is_some}
 use Rattle.std.proofs.Common.{sym, subst, arith}
 use Rattle.masks.specs.Pick.{pick}
 use Rattle.rules.specs.declared.Answer.{Answer}
 use Rattle.rules.specs.declared.Answer.TheVariants.{Ok, Value, Stored, Queued, HeldOff, Sent, Pulse, Refused, Overrun, Unmatched, BadFrame, Ignored, Woke, NotSent, Waiting}
 use Rattle.rules.specs.Answers.{Given, dash, value, buffer, counted, kind, number, word_of, given_of, detail_of}
-use Rattle.report.specs.Text.{hex_of, word_texts, word_text, given_text, detail_text, Put}
-use Rattle.report.specs.Laws.{then}
+use Rattle.report.specs.Text.{hex_of, word_texts, word_text, given_text, detail_text}
+use Rattle.report.specs.declared.puts.Writer.{Writer}
+use Rattle.report.specs.CodeWriter.{Appends, both}
 
--- a value, a buffer or a refusal
-abbrev pub is_hex : Given → Bool
-is_hex dash = false
-is_hex (value v) = true
-is_hex (buffer n) = true
-is_hex (counted k) = false
-is_hex (kind k) = false
-is_hex (number r) = true
-
-abbrev pub hex_in : Given → ℕ
-hex_in dash = 0
-hex_in (value v) = v
-hex_in (buffer n) = n
-hex_in (counted k) = 0
-hex_in (kind k) = 0
-hex_in (number r) = r
+-- a value, a buffer or a refusal; no other detail is a number in hex
+abbrev pub hex_in : Given → Option ℕ
+hex_in dash = None
+hex_in (value v) = Some v
+hex_in (buffer n) = Some n
+hex_in (counted k) = None
+hex_in (kind k) = None
+hex_in (number r) = Some r
 
 -- answer and detail with their tabs, but for such a number and its tab
 unfoldable pub before_hex : Answer → List ℕ → List ℕ
-before_hex a f = word_text (word_of a) ++ (9 ∷ []) ++ pick (is_hex (given_of a)) [] (detail_text (detail_of a f) ++ (9 ∷ []))
+before_hex a f = word_text (word_of a) ++ (9 ∷ []) ++ pick (is_some (hex_in (given_of a))) [] (detail_text (detail_of a f) ++ (9 ∷ []))
+
+-- an option without a number
+pub without : (o : Option ℕ) {p : Option ℕ} → o ≡ p → ((x : ℕ) → o ≡ Some x → ⊥) → p ≡ None
+without None e h = sym e
+without (Some x) e h = absurd (h x refl)
+
+same : {v n : ℕ} → Some v ≡ Some n → v ≡ n
+same e = cc
 
 -- with it the text is whole
-hex-whole : (a : Answer) (f : List ℕ) → is_hex (given_of a) ≡ true →
-    before_hex a f ++ (hex_of (hex_in (given_of a)) ++ (9 ∷ [])) ≡ word_text (word_of a) ++ (9 ∷ []) ++ detail_text (detail_of a f) ++ (9 ∷ [])
+hex-whole : (a : Answer) (f : List ℕ) (n : ℕ) → hex_in (given_of a) ≡ Some n →
+    before_hex a f ++ (hex_of n ++ (9 ∷ [])) ≡ word_text (word_of a) ++ (9 ∷ []) ++ detail_text (detail_of a f) ++ (9 ∷ [])
 unfolding before_hex pick word_texts detail_text given_text
-hex-whole Ok f t = absurd (false≢true t)
-hex-whole (Value v) f t = refl
-hex-whole (Stored n) f t = refl
-hex-whole (Queued n) f t = refl
-hex-whole (HeldOff n) f t = refl
-hex-whole (Sent k) f t = absurd (false≢true t)
-hex-whole (Pulse k) f t = absurd (false≢true t)
-hex-whole (Refused r) f t = refl
-hex-whole Overrun f t = absurd (false≢true t)
-hex-whole Unmatched f t = absurd (false≢true t)
-hex-whole BadFrame f t = absurd (false≢true t)
-hex-whole Ignored f t = absurd (false≢true t)
-hex-whole Woke f t = absurd (false≢true t)
-hex-whole NotSent f t = absurd (false≢true t)
-hex-whole (Waiting n) f t = refl
+hex-whole Ok f n e = absurd (cc)
+hex-whole (Value v) f n e = rw (same e) refl
+hex-whole (Stored v) f n e = rw (same e) refl
+hex-whole (Queued v) f n e = rw (same e) refl
+hex-whole (HeldOff v) f n e = rw (same e) refl
+hex-whole (Sent k) f n e = absurd (cc)
+hex-whole (Pulse k) f n e = absurd (cc)
+hex-whole (Refused r) f n e = rw (same e) refl
+hex-whole Overrun f n e = absurd (cc)
+hex-whole Unmatched f n e = absurd (cc)
+hex-whole BadFrame f n e = absurd (cc)
+hex-whole Ignored f n e = absurd (cc)
+hex-whole Woke f n e = absurd (cc)
+hex-whole NotSent f n e = absurd (cc)
+hex-whole (Waiting v) f n e = rw (same e) refl
 
 -- there is room for it
-pub hex-room : (a : Answer) (f : List ℕ) → is_hex (given_of a) ≡ true → length (before_hex a f) ≤ 8
+pub hex-room : (a : Answer) (f : List ℕ) (n : ℕ) → hex_in (given_of a) ≡ Some n → length (before_hex a f) ≤ 8
 unfolding before_hex pick word_texts
-hex-room Ok f t = absurd (false≢true t)
-hex-room (Value v) f t = omega arith
-hex-room (Stored n) f t = omega arith
-hex-room (Queued n) f t = omega arith
-hex-room (HeldOff n) f t = omega arith
-hex-room (Sent k) f t = absurd (false≢true t)
-hex-room (Pulse k) f t = absurd (false≢true t)
-hex-room (Refused r) f t = omega arith
-hex-room Overrun f t = absurd (false≢true t)
-hex-room Unmatched f t = absurd (false≢true t)
-hex-room BadFrame f t = absurd (false≢true t)
-hex-room Ignored f t = absurd (false≢true t)
-hex-room Woke f t = absurd (false≢true t)
-hex-room NotSent f t = absurd (false≢true t)
-hex-room (Waiting n) f t = omega arith
+hex-room Ok f n e = absurd (cc)
+hex-room (Value v) f n e = omega arith
+hex-room (Stored v) f n e = omega arith
+hex-room (Queued v) f n e = omega arith
+hex-room (HeldOff v) f n e = omega arith
+hex-room (Sent k) f n e = absurd (cc)
+hex-room (Pulse k) f n e = absurd (cc)
+hex-room (Refused r) f n e = omega arith
+hex-room Overrun f n e = absurd (cc)
+hex-room Unmatched f n e = absurd (cc)
+hex-room BadFrame f n e = absurd (cc)
+hex-room Ignored f n e = absurd (cc)
+hex-room Woke f n e = absurd (cc)
+hex-room NotSent f n e = absurd (cc)
+hex-room (Waiting v) f n e = omega arith
 
 -- without such a number it is whole as it stands
-plain-whole : (a : Answer) (f : List ℕ) → is_hex (given_of a) ≡ false → before_hex a f ≡ word_text (word_of a) ++ (9 ∷ []) ++ detail_text (detail_of a f) ++ (9 ∷ [])
+plain-whole : (a : Answer) (f : List ℕ) → hex_in (given_of a) ≡ None → before_hex a f ≡ word_text (word_of a) ++ (9 ∷ []) ++ detail_text (detail_of a f) ++ (9 ∷ [])
 unfolding before_hex pick word_texts detail_text given_text
-plain-whole Ok f t = refl
-plain-whole (Value v) f t = absurd (false≢true (sym t))
-plain-whole (Stored n) f t = absurd (false≢true (sym t))
-plain-whole (Queued n) f t = absurd (false≢true (sym t))
-plain-whole (HeldOff n) f t = absurd (false≢true (sym t))
-plain-whole (Sent k) f t = refl
-plain-whole (Pulse k) f t = refl
-plain-whole (Refused r) f t = absurd (false≢true (sym t))
-plain-whole Overrun f t = refl
-plain-whole Unmatched f t = refl
-plain-whole BadFrame f t = refl
-plain-whole Ignored f t = refl
-plain-whole Woke f t = refl
-plain-whole NotSent f t = refl
-plain-whole (Waiting n) f t = absurd (false≢true (sym t))
+plain-whole Ok f e = refl
+plain-whole (Value v) f e = absurd (cc)
+plain-whole (Stored n) f e = absurd (cc)
+plain-whole (Queued n) f e = absurd (cc)
+plain-whole (HeldOff n) f e = absurd (cc)
+plain-whole (Sent k) f e = refl
+plain-whole (Pulse k) f e = refl
+plain-whole (Refused r) f e = absurd (cc)
+plain-whole Overrun f e = refl
+plain-whole Unmatched f e = refl
+plain-whole BadFrame f e = refl
+plain-whole Ignored f e = refl
+plain-whole Woke f e = refl
+plain-whole NotSent f e = refl
+plain-whole (Waiting n) f e = absurd (cc)
 
 -- the two parts, one put behind the other
-module _ {o p : List ℕ} {at r : ℕ} (a : Answer) (f : List ℕ) where
-  pub hex-put : {q : List ℕ} {t v : ℕ} → is_hex (given_of a) ≡ true → v ≡ hex_in (given_of a) → Put o at (before_hex a f) p r → Put p r (hex_of v ++ (9 ∷ [])) q t →
-      Put o at (word_text (word_of a) ++ (9 ∷ []) ++ detail_text (detail_of a f) ++ (9 ∷ [])) q t
-  hex-put {q} {t} {v} h e x y =
-      subst (λ (xs : List ℕ). Put o at xs q t) (hex-whole a f h) (then x (subst (λ (n : ℕ). Put p r (hex_of n ++ (9 ∷ [])) q t) e y))
+module _ {w v : Writer} (a : Answer) (f : List ℕ) where
+  pub hex-put : {u : Writer} {n : ℕ} → hex_in (given_of a) ≡ Some n → Appends w (before_hex a f) v → Appends v (hex_of n ++ (9 ∷ [])) u →
+      Appends w (word_text (word_of a) ++ (9 ∷ []) ++ detail_text (detail_of a f) ++ (9 ∷ [])) u
+  hex-put {u} {n} e x y = subst (λ (xs : List ℕ). Appends w xs u) (hex-whole a f n e) (both x y)
 
-  pub plain-put : is_hex (given_of a) ≡ false → Put o at (before_hex a f) p r →
-      Put o at (word_text (word_of a) ++ (9 ∷ []) ++ detail_text (detail_of a f) ++ (9 ∷ [])) p r
-  plain-put h x = subst (λ (xs : List ℕ). Put o at xs p r) (plain-whole a f h) x
+  pub plain-put : hex_in (given_of a) ≡ None → Appends w (before_hex a f) v →
+      Appends w (word_text (word_of a) ++ (9 ∷ []) ++ detail_text (detail_of a f) ++ (9 ∷ [])) v
+  plain-put e x = subst (λ (xs : List ℕ). Appends w xs v) (plain-whole a f e) x

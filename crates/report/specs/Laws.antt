@@ -1,6 +1,6 @@
 -- Laws of the report's text: texts put one behind the other, rooms that are long enough, and how long a row can be.
 use Rattle.std.specs.Prelude.{◌≡◌, ℕ, zero, suc, ◌+◌, ◌/◌, ◌%◌, ◌<◌, ◌≤◌, max, Bool, true, false, List, [], ◌∷◌, ◌++◌, length, take, drop, set, replicate, nat_le, nat_lt, slice_index, slice_index_or, slice_set, refl}
-use Rattle.std.proofs.Common.{le_of_lt, zero-add, add-zero, add-suc, suc-add, add_assoc, add-one, arith, sym, ap, ◌∙◌, append_assoc, append-nil, leb-true, le-leb, length-append, length-set, take-suc, take_at, take_all, drop_at, length-take-le, set-set}
+use Rattle.std.proofs.Common.{le_of_lt, zero-add, add-zero, add-suc, suc-add, add_assoc, add-one, arith, sym, ap, ◌∙◌, append_assoc, append-nil, leb-true, le-leb, length-append, take-suc, take_at, drop_at, length-take-le, set-set}
 use Rattle.std.proofs.lemmas.Bool.{lt-leb}
 use Rattle.std.proofs.lemmas.List.{length-replicate, set_comm}
 use Rattle.std.proofs.lemmas.List.Edits.{sets, sets-eq}
@@ -128,36 +128,6 @@ more s o at i h =
     ap (λ (n : ℕ). set (sets o at (take i s)) (at + n) (slice_index s i)) (sym (length-take-le i s (le_of_lt h)))
     ∙ sets-append (take i s) (slice_index s i ∷ []) o at
     ∙ ap (sets o at) (sym (take-suc s i 0 h) ∙ ap (λ (n : ℕ). take n s) (sym (add-one i)))
-
--- the room after the stores of w's bytes 0 to k, one by one
-unfoldable pub stores : ℕ → List ℕ → List ℕ → ℕ → List ℕ
-stores zero w o at = slice_set o at (slice_index w 0)
-stores (suc k) w o at = slice_set (stores k w o at) (at + suc k) (slice_index w (suc k))
-
-stores-sets : (k : ℕ) (w o : List ℕ) (at : ℕ) → k < length w → stores k w o at ≡ sets o at (take (suc k) w)
-unfolding stores
-stores-sets zero w o at h = ap (λ (n : ℕ). set o n (slice_index w 0)) (sym (add-zero at)) ∙ more w o at 0 h
-stores-sets (suc k) w o at h =
-    ap (λ (l : List ℕ). set l (at + suc k) (slice_index w (suc k))) (stores-sets k w o at (omega arith))
-    ∙ more w o at (suc k) h
-    ∙ ap (λ (n : ℕ). sets o at (take n w)) (add-one (suc k))
-
--- they keep the room's length
-pub stores-length : (k : ℕ) (w o : List ℕ) (at : ℕ) → length (stores k w o at) ≡ length o
-unfolding stores
-stores-length zero w o at = length-set o at (slice_index w 0)
-stores-length (suc k) w o at = length-set (stores k w o at) (at + suc k) (slice_index w (suc k)) ∙ stores-length k w o at
-
--- so the next one is within it
-pub stores-within : (k : ℕ) {n : ℕ} (w o : List ℕ) (at : ℕ) → suc k < n → at + n ≤ length o → at + suc k < length (stores k w o at)
-stores-within k w o at h q = omega (arith, stores-length k w o at)
-
--- the stores of all its bytes put it
-pub stores-put : (k : ℕ) (w o : List ℕ) (at : ℕ) → length w ≡ suc k → Put o at w (stores k w o at) (at + suc k)
-stores-put k w o at e = record {
-  next = ap (λ (n : ℕ). at + n) (sym e);
-  text = stores-sets k w o at (omega arith) ∙ ap (sets o at) (take_all (suc k) w (omega arith));
-}
 
 hexes-append : (xs ys : List ℕ) → hexes_of (xs ++ ys) ≡ hexes_of xs ++ hexes_of ys
 unfolding hexes_of

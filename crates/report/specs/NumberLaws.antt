@@ -1,7 +1,9 @@
 -- Laws of numbers that are counted up: each is the number that it stands for, and a row by it is the row of document 01.
 use Rattle.std.specs.Prelude.{◌≡◌, ℕ, zero, suc, ◌+◌, ◌-◌, ◌*◌, ◌/◌, ◌%◌, ◌^◌, ◌<◌, ◌≤◌, List, [], ◌∷◌, ◌++◌, length, drop, nat_lt, refl}
-use Rattle.std.proofs.Common.{arith, sym, ap, ◌∙◌, append_assoc, lt-ltb, le-ltb, ltb-true, ltb-false, length-drop, length-append}
+use Rattle.std.proofs.Common.{arith, sym, ap, ap₂, ◌∙◌, append_assoc, lt-ltb, le-ltb, ltb-true, ltb-false, length-drop, length-append}
+use Rattle.std.specs.Int.{w64, byte_at, bytes_low_first, to_le_bytes}
 use Rattle.std.proofs.lemmas.List.Edits.{sets}
+use Rattle.std.proofs.Math.Nat.{pow-suc, div-div-eq-div-mul}
 use Rattle.masks.specs.PickLaws.{pick_true, pick-false, pick-keeps, by-test}
 use Rattle.rules.specs.Answers.{Detail}
 use Rattle.report.specs.declared.Number.{Number}
@@ -160,6 +162,24 @@ length-bytes : (k d : ℕ) → length (word_bytes k d) ≡ k
 unfolding word_bytes
 length-bytes zero d = refl
 length-bytes (suc k) d = ap suc (length-bytes k (d / 256))
+
+whole : (d : ℕ) → d / 1 ≡ d
+whole d = omega arith
+
+-- the bytes that the library makes of a word
+low-bytes : (k i d : ℕ) → bytes_low_first i k d ≡ word_bytes k (d / 256 ^ i)
+unfolding word_bytes
+low-bytes zero i d = refl
+low-bytes (suc k) i d =
+    let e : d / 256 ^ suc i ≡ d / 256 ^ i / 256 = rw (pow-suc 256 i) (sym (div-div-eq-div-mul d (256 ^ i) 256)) in
+    ap₂ (λ (x : ℕ) (xs : List ℕ). x ∷ xs) (low-byte i d) (low-bytes k (suc i) d ∙ ap (word_bytes k) e)
+  where
+    low-byte : (i d : ℕ) → byte_at i d ≡ d / 256 ^ i % 256
+    low-byte zero d = ap (λ (x : ℕ). x % 256) (sym (whole d))
+    low-byte (suc i) d = refl
+
+pub le-bytes : (d : ℕ) → to_le_bytes w64 d ≡ word_bytes 8 d
+le-bytes d = low-bytes 8 0 d ∙ ap (word_bytes 8) (whole d)
 
 pub length-number : (x : Number) → length (number_text x) ≡ x.len % 8 + 1
 unfolding number_text

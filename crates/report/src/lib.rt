@@ -9,6 +9,7 @@ ghost use Rattle.rules.specs.Answers.{word_of, detail_of};
 ghost use Rattle.report.specs.Text.{Put, fitting, width_of, word_text, unread_text, detail_text, heading_of};
 ghost use Rattle.report.specs.CodeNumbers.{number_of, next_number, numbered_row};
 
+use puts::Writer;
 use rules::Answer;
 
 // A line's number, kept as digits, so that the next line's is a sum and not a division for each digit. All fields are eight bytes
@@ -26,25 +27,18 @@ pub struct Number {
 }
 
 // The number of a line number's digits, at most six.
+#[tactic(auto, unfolding(crate::specs::Text::width_of, masks::specs::Pick::pick))]
 fn width(n: u32) -> usize
     ensures { result ≡ width_of n }
 {
-    if n < 10 {
-        return 1;
+    match n {
+        0..10 => 1,
+        10..100 => 2,
+        100..1000 => 3,
+        1000..10000 => 4,
+        10000..100000 => 5,
+        _ => 6,
     }
-    if n < 100 {
-        return 2;
-    }
-    if n < 1000 {
-        return 3;
-    }
-    if n < 10000 {
-        return 4;
-    }
-    if n < 100000 {
-        return 5;
-    }
-    6
 }
 
 // The number n, of one above 999,999 its last six digits. They are found from the last to the first.
@@ -55,12 +49,10 @@ pub fn number_of(n: u32) -> Number
     let mut digits: u64 = 9;
     let mut place: u64 = 1;
     let mut rest = n;
-    let mut i = 0;
-    while i < len {
+    for _ in 0..len {
         digits = digits * 256 + 48 + (rest % 10) as u64;
-        place = place * 256;
-        rest = rest / 10;
-        i += 1;
+        place *= 256;
+        rest /= 10;
     }
     Number {
         digits,
@@ -71,33 +63,31 @@ pub fn number_of(n: u32) -> Number
 }
 
 // The number m, which comes after x.
+#[tactic(auto, unfolding(crate::specs::CodeNumbers::next_number, crate::specs::CodeNumbers::counted_up, masks::specs::Pick::pick))]
 pub fn number_next(x: Number, m: u32) -> Number
     ensures { result ≡ next_number x m }
 {
     if 0 < x.until {
         return Number {
-            digits: std::num::wrapping_add_u64(x.digits, x.unit),
-            unit: x.unit,
+            digits: x.digits.wrapping_add(x.unit),
             until: x.until - 1,
-            len: x.len,
+            ..x
         };
     }
     number_of(m)
 }
 
-// A room of so many bytes has 64 from the index on. Told without their sum, which may be too large.
-fn fits(size: usize, at: usize) -> bool
-    ensures { result ≡ nat_le (at + 64) size }
+// A room of so many bytes has place for so many more from the index on. Told without their sum, which may be too large.
+pub fn has_room(size: usize, at: usize, need: usize) -> bool
+    ensures { result ≡ nat_le (at + need) size }
 {
-    if size < 64 {
-        return false;
-    }
-    at <= size - 64
+    need <= size && at <= size - need
 }
 
 // The row of a step: its line's number, its answer with the frame that was sent, of which only fourteen bytes count, the five lines
 // after it, and how many buffers were examined. Answers the index behind the row. Where fewer than 64 bytes are left, nothing is written
-// and the index stays.
+// and the index stays. Room and index come apart: who calls keeps the index, and has the room lent anew for each piece. What a row shows
+// comes as it is: both callers would make a struct of it for this call alone.
 pub fn row(
     out: &mut [u8],
     at: usize,
@@ -109,31 +99,39 @@ pub fn row(
 ) -> usize
     ensures { Put out.old at (fitting out.old at (numbered_row x (word_text (word_of a)) (detail_text (detail_of a (take 14 sent.now))) irq looked)) out.new result }
 {
-    if !fits(out.len(), at) {
+    if !has_room(out.len(), at, 64) {
         return at;
     }
-    if 14 < sent.len() {
-        return texts::row(out, at, x, a, &sent[..14], irq, looked);
-    }
-    texts::row(out, at, x, a, sent, irq, looked)
+    let sent = &sent[..sent.len().min(14)];
+    let mut row = Writer { out, at };
+    row.number(x);
+    row.answer(a, sent);
+    row.end(irq, looked);
+    row.at
 }
 
 // The row of a line that is no step, in the same way.
 pub fn unread_row(out: &mut [u8], at: usize, x: Number, irq: u8) -> usize
     ensures { Put out.old at (fitting out.old at (numbered_row x unread_text (45 ∷ []) irq 0)) out.new result }
 {
-    if !fits(out.len(), at) {
+    if !has_room(out.len(), at, 64) {
         return at;
     }
-    texts::unread(out, at, x, irq)
+    let mut row = Writer { out, at };
+    row.number(x);
+    row.put(*b"unread\t-\t");
+    row.end(irq, 0);
+    row.at
 }
 
 // The heading, in the same way.
 pub fn heading(out: &mut [u8], at: usize) -> usize
     ensures { Put out.old at (fitting out.old at heading_of) out.new result }
 {
-    if !fits(out.len(), at) {
+    if !has_room(out.len(), at, 64) {
         return at;
     }
-    puts::put(out, at, b"line\tanswer\tdetail\tirq\tlooked\n")
+    let mut row = Writer { out, at };
+    row.put(*b"line\tanswer\tdetail\tirq\tlooked\n");
+    row.at
 }

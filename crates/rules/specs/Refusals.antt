@@ -1,11 +1,13 @@
 -- Document 01, 'Refusal numbers': each refusal as a test, and the lowest number that applies.
-use Rattle.std.specs.Prelude.{ℕ, suc, ◌+◌, ◌-◌, ◌%◌, Bool, ◌&&◌, ◌||◌, not, List, [], ◌∷◌, get_or, length, eqb, ltb, leb}
+use Rattle.std.specs.Prelude.{ℕ, suc, Result, Ok, Err, ◌+◌, ◌-◌, ◌%◌, Bool, ◌&&◌, ◌||◌, not, List, [], ◌∷◌, get_or, length, eqb, ltb, leb}
 use Rattle.std.specs.Bool.{beq}
 use Rattle.masks.specs.Pick.{pick}
 use Rattle.masks.specs.Bits.{some_of}
 use Rattle.locks.specs.Pair.{has_holder, is_full}
 use Rattle.contents.specs.Bytes.{cut}
 use Rattle.rules.specs.declared.Control.{Control}
+use Rattle.rules.specs.declared.Refusal.{Refusal}
+use Rattle.rules.specs.declared.Refusal.TheVariants.{NoRegister, Asleep, ReadOnly, OnlyInInit, NoHolder, FsizAbove16, KindOfLocked, UnlawfulLayout, NotOldest, NoLockLeft, FrameSize, RoomSize}
 use Rattle.rules.specs.Registers.{has, between, INITRQ, LOCK}
 use Rattle.rules.specs.Kinds.{is_transmit, is_locked, is_oldest, is_lawful}
 use Rattle.rules.specs.Waiting.{asleep}
@@ -99,7 +101,28 @@ write_refusal c a v =
     (refuses1 a ∷ refuses2 c a ∷ refuses3 a ∷ refuses4 c a ∷ refuses5 c a
     ∷ refuses6 a v ∷ refuses7 c a v ∷ refuses8 c a v ∷ refuses9 c a v ∷ refuses10 c a v ∷ [])
 
--- a step's refusal, 0 for none
+-- ---- the refusals by name
+
+abbrev pub refusal_number : Refusal → ℕ
+refusal_number NoRegister = 1
+refusal_number Asleep = 2
+refusal_number ReadOnly = 3
+refusal_number OnlyInInit = 4
+refusal_number NoHolder = 5
+refusal_number FsizAbove16 = 6
+refusal_number KindOfLocked = 7
+refusal_number UnlawfulLayout = 8
+refusal_number NotOldest = 9
+refusal_number NoLockLeft = 10
+refusal_number FrameSize = 11
+refusal_number RoomSize = 12
+
+-- the number of what a test gives: 0 where it refuses nothing
+abbrev pub number_of : Result Unit Refusal → ℕ
+number_of (Ok _) = 0
+number_of (Err r) = refusal_number r
+
+-- ---- a step's refusal, 0 for none
 unfoldable pub refusal : Control → Step → ℕ
 refusal c reset = 0
 refusal c (read a) = read_refusal c a

@@ -52,13 +52,13 @@ pub const LOCKIE: u8 = 0x02;
 pub const WAKEIF: u8 = 0x01;
 
 // the flags of $06 and of $07 that a written 1 clears, those of $07 without SYNLIF, and the bits of $08
-pub const RISR_EVENTS: u8 = 0x3A;
+pub const RISR_EVENTS: u8 = SYNAIF | SYNNIF | SLMMIF | XSYNIF;
 
-pub const GISR_EVENTS: u8 = 0x7D;
+pub const GISR_EVENTS: u8 = GISR_OTHERS | SYNLIF;
 
-pub const GISR_OTHERS: u8 = 0x75;
+pub const GISR_OTHERS: u8 = OVRNIF | ERRIF | SYNEIF | ILLPIF | WAKEIF;
 
-pub const RIER_BITS: u8 = 0xFA;
+pub const RIER_BITS: u8 = RCVFIF | RXIF | SYNAIF | SYNNIF | SLMMIF | XSYNIF;
 
 // $10, $12
 pub const BFEN: u8 = 0x80;
@@ -91,7 +91,7 @@ pub const LINE_XSYNC: u8 = 0x02;
 
 pub const LINE_GENERAL: u8 = 0x01;
 
-// The bit of that weight in v. Weight 0 is no bit.
+// The bit of that weight in v. Weight 0 is no bit. By division, so that its clause holds for every weight: one may be no power of two.
 pub fn has(v: u8, bit: u8) -> bool
     ensures { result ≡ has v bit }
 {

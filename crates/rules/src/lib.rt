@@ -3,6 +3,11 @@
 
 pub mod bits;
 
+ghost use Rattle.std.specs.Prelude.{◌≡◌};
+ghost use Rattle.rules.specs.declared.Answer.TheVariants.{Refused};
+ghost use Rattle.rules.specs.Registers.{register_at};
+ghost use Rattle.rules.specs.Refusals.{refusal_number};
+
 use filter::Filter;
 use locks::Locks;
 
@@ -51,6 +56,79 @@ pub enum Register {
     Reserved,
 }
 
+// The register behind an address.
+impl From<u8> for Register {
+    ghost from_gives = { λ a r. r ≡ register_at a };
+
+    #[tactic(auto, unfolding(crate::specs::Registers::register_at, crate::specs::Registers::low_map, masks::specs::Pick::pick))]
+    fn from(a: u8) -> Register {
+        match a {
+            0x00 => Register::Mcr,
+            0x01 => Register::Fsizr,
+            0x02 => Register::Tcr1,
+            0x03 => Register::Tcr2,
+            0x04 => Register::Tcr3,
+            0x06 => Register::Risr,
+            0x07 => Register::Gisr,
+            0x08 => Register::Rier,
+            0x09 => Register::Gier,
+            0x0A => Register::Rivec,
+            0x0B => Register::Tivec,
+            0x0C => Register::Fidac,
+            0x0D => Register::Fidmr,
+            0x0E => Register::Mvr,
+            0x10 => Register::Pctlbf,
+            0x12 => Register::Buflock,
+            0x14 => Register::Fidrj,
+            0x15 => Register::Fidrmr,
+            0x20..=0x2D => Register::TransmitWindow(a - 0x20),
+            0x30..=0x3D => Register::ReceiveWindow(a - 0x30),
+            0x40..=0x4D => Register::FifoWindow(a - 0x40),
+            0x50..=0x5F => Register::Bufctl(a - 0x50),
+            _ => Register::Reserved,
+        }
+    }
+}
+
+// Why a call is refused, in the order of the refusals' numbers.
+#[derive(Clone, Copy, Debug, PartialEq, Eq)]
+pub enum Refusal {
+    NoRegister,
+    Asleep,
+    ReadOnly,
+    OnlyInInit,
+    NoHolder,
+    FsizAbove16,
+    KindOfLocked,
+    UnlawfulLayout,
+    NotOldest,
+    NoLockLeft,
+    FrameSize,
+    RoomSize,
+}
+
+// The refusal's number.
+impl From<Refusal> for u8 {
+    ghost from_gives = { λ r k. k ≡ refusal_number r };
+
+    fn from(r: Refusal) -> u8 {
+        match r {
+            Refusal::NoRegister => 1,
+            Refusal::Asleep => 2,
+            Refusal::ReadOnly => 3,
+            Refusal::OnlyInInit => 4,
+            Refusal::NoHolder => 5,
+            Refusal::FsizAbove16 => 6,
+            Refusal::KindOfLocked => 7,
+            Refusal::UnlawfulLayout => 8,
+            Refusal::NotOldest => 9,
+            Refusal::NoLockLeft => 10,
+            Refusal::FrameSize => 11,
+            Refusal::RoomSize => 12,
+        }
+    }
+}
+
 // What a call or an event is answered.
 #[derive(Clone, Copy)]
 pub enum Answer {
@@ -62,6 +140,7 @@ pub enum Answer {
     // so many bytes of the room are the frame
     Sent(u8),
     Pulse(SyncKind),
+    // the refusal's number: who writes an answer takes any
     Refused(u8),
     Overrun,
     Unmatched,
@@ -71,6 +150,15 @@ pub enum Answer {
     NotSent,
     // the frame waits for the buffer, which is locked
     Waiting(u8),
+}
+
+// The answer to a call that is refused.
+impl From<Refusal> for Answer {
+    ghost from_gives = { λ r a. a ≡ Refused (refusal_number r) };
+
+    fn from(r: Refusal) -> Answer {
+        Answer::Refused(u8::from(r))
+    }
 }
 
 // $00, synchronization, and the largest identifier on the bus since the last sync.
@@ -134,8 +222,8 @@ pub struct Buffers {
     pub armed: u16,
 }
 
-// The two waiting places: for which buffer the frame in each waits, 16 in a free one. Swapped: the frame in the second place came
-// before the one in the first.
+// The two waiting places: for which buffer the frame in each waits, 16 in a free one, as the C record has it. Swapped: the frame in the
+// second place came before the one in the first.
 #[repr(C)]
 #[derive(Clone, Copy)]
 pub struct Places {
@@ -158,13 +246,18 @@ pub struct Control {
     pub buffers: Buffers,
 }
 
-// What the rules make of a bus step: an answer alone, a frame to store with its answer, or a buffer's frame to send. A frame is stored
-// in a buffer, or, where that number is 16, in a waiting place, which else is 2: one case for both, so that the code that stores a frame
-// stands once.
+// Where a frame is stored: in a buffer, or in one of the two waiting places.
+#[derive(Clone, Copy)]
+pub enum Target {
+    Buffer(u8),
+    Place(u8),
+}
+
+// What the rules make of a bus step: an answer alone, a frame to store with its answer, or a buffer's frame to send.
 #[derive(Clone, Copy)]
 pub enum Verdict {
     Say(Answer),
-    Store(u8, u8, Answer),
+    Store(Target, Answer),
     Send(u8),
 }
 

@@ -9,9 +9,9 @@ use Rattle.std.proofs.Math.Dec.{eqb, ltb}
 use Rattle.std.proofs.Math.ListN.{get_or}
 use Rattle.std.specs.Int.Bits.{bit_and}
 use Rattle.masks.specs.PickLaws.{by-test}
-use Rattle.masks.specs.Bits.{bit_of, mask_of, lowest, highest}
+use Rattle.masks.specs.Bits.{bit_of, mask_of, lowest, highest, buffer_of, number_in}
 use Rattle.masks.specs.Laws.{bit-none, bit_mask, mask-of, same-mask, own, and-by, not-by-mask}
-use Rattle.masks.specs.SearchLaws.{never_both, lowest-ext, highest-ext}
+use Rattle.masks.specs.SearchLaws.{never_both, lowest-le, lowest-ext, highest-le, highest-ext, number-found}
 use Rattle.contents.specs.declared.Contents.{Contents}
 use Rattle.search.specs.CodeSearch.{ident_at, carries_at, named_at, is_named_in, lowest_with, highest_with, named_of}
 
@@ -184,3 +184,13 @@ module _ (rows : List Contents) (ids : List ℕ) (of-rows : ids ≡ idents_of ro
       (lt-ltb n 16 l)
       ∙ both-parts (bit_of m n) (ltb n 8) (eqb (get_or ids n 0) 0)
       ∙ ap (λ (k : ℕ). bit_of m n && not (eqb k 0)) (ident-of n l))
+
+-- ---- what is found, by its number
+
+pub lowest-number : (rows : List Contents) (m i : ℕ) → number_in (buffer_of (lowest_with rows m i)) ≡ lowest_with rows m i
+unfolding lowest_with
+lowest-number rows m i = number-found _ (lowest-le (carries_at rows m i) 0 16 refl)
+
+pub highest-number : (rows : List Contents) (m i : ℕ) → number_in (buffer_of (highest_with rows m i)) ≡ highest_with rows m i
+unfolding highest_with
+highest-number rows m i = number-found _ (highest-le (carries_at rows m i) 16 (omega arith))

@@ -1,13 +1,11 @@
--- What the code's writes leave in the room, as the definitions say it.
-use Prim.Native.Nat.{ℕ, zero, suc, ◌+◌, ◌≤◌, ◌<◌, min}
-use mathlib.Core.List.{List, [], ◌∷◌, ◌++◌}
-use mathlib.Core.Path.{◌≡◌, refl, ap, sym, ◌∙◌}
-use native.Mathlib.Nat.{zero-add}
-use native.Mathlib.Omega.{arith}
-use lib.ListN.{length, get_or, set, take, drop}
-use lib.Seq.{drop-cons, length-take-le}
+-- What the code's copy leaves in the room, as the definitions say it.
+use Rattle.std.specs.Prelude.{◌≡◌, ℕ, zero, suc, ◌+◌, ◌≤◌, min, List, [], ◌∷◌, ◌++◌, length, get_or, take, drop}
+use Rattle.std.proofs.Common.{arith, ap, ap₂, sym, ◌∙◌, refl}
+use lib.Seq.{drop-cons}
+use Rattle.contents.specs.declared.Contents.{Contents}
 use Rattle.contents.specs.Bytes.{bytes_from, frame_of, fill_room}
-use Rattle.contents.proofs.Copy.{copied, copied_more}
+use Rattle.contents.specs.PayloadLaws.{frame-size}
+use Rattle.sending.specs.CodeRoom.{room_after, room-kept, room-filled}
 
 bytes-part : (b : List ℕ) (i k : ℕ) → i + k ≤ length b → bytes_from i k b ≡ take k (drop i b)
 unfolding bytes_from
@@ -26,16 +24,15 @@ frame-part (x ∷ (y ∷ b)) e =
     ap (λ (t : List ℕ). x ∷ (y ∷ t)) (bytes-part (x ∷ (y ∷ b)) 2 (min 12 y) (omega arith))
     ∙ sym (ap (λ (n : ℕ). take n (x ∷ (y ∷ b))) past)
 
--- one byte more in the room
-pub room-more : (room b : List ℕ) (k : ℕ) → k < length room → k < length b
-    → set (copied room 0 b k) k (get_or b k 0) ≡ copied room 0 b (k + 1)
-room-more room b k hr hb = rw (zero-add k) at (copied_more room 0 b k (omega arith) hb)
+-- the room with the frame's n bytes copied
+pub room-copied : (b : Contents) (room copied : List ℕ) (n : ℕ) → length b.bytes ≡ 14 → 14 ≤ length room
+    → n ≡ length (frame_of b) → copied ≡ take n b.bytes → copied ++ drop n room ≡ room_after b room
+unfolding fill_room
+room-copied b room copied n e h size is =
+    let sent : copied ≡ frame_of b = is ∙ ap (λ (k : ℕ). take k b.bytes) (size ∙ frame-size b) ∙ sym (frame-part b.bytes e) in
+    ap₂ (λ (f : List ℕ) (k : ℕ). f ++ drop k room) sent size ∙ sym (room-filled b room h)
 
--- the room with the frame's bytes copied
-pub room-copied : (room b : List ℕ) (k : ℕ) → length b ≡ 14 → k ≡ 2 + min 12 (get_or b 1 0)
-    → copied room 0 b k ≡ fill_room (frame_of (record { bytes = b })) room
-unfolding copied fill_room
-room-copied room b k e h =
-    let size : length (take k b) ≡ k = length-take-le k b (omega arith) in
-    ap (λ (n : ℕ). take k b ++ drop n room) (zero-add k ∙ sym size)
-    ∙ ap (λ (f : List ℕ). f ++ drop (length f) room) (ap (λ (n : ℕ). take n b) h ∙ sym (frame-part b e))
+-- what the proofs of the code cite
+pub ruleset sizes = (frame-size)
+
+pub ruleset room_laws = (room-kept, room-copied)

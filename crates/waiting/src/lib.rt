@@ -1,5 +1,6 @@
-// The two places in which frames wait for a locked buffer, and the sleep that waits for them.
-#![tactic(auto)]
+// The two places in which frames wait for a locked buffer, and the sleep that waits for them. Functions and no methods: the types are of
+// crate rules, and what is promised here is not.
+#![tactic(auto, unfolding(masks::specs::Pick::pick))]
 
 ghost use Rattle.std.specs.Prelude.{◌≡◌, eqb};
 ghost use Rattle.masks.specs.Pick.{pick};
@@ -11,37 +12,34 @@ use masks::NONE;
 use rules::{Control, Places};
 
 // SLPAK: SLPRQ, and no frame waits.
+#[tactic(auto, unfolding(rules::specs::Waiting::asleep, masks::specs::Pick::pick))]
 pub fn asleep(c: Control) -> bool
     ensures { result ≡ asleep c }
 {
-    if c.mode.slprq {
-        let p = c.places;
-        return NONE <= p.first && NONE <= p.second;
+    let p = c.places;
+    c.mode.slprq && NONE <= p.first && NONE <= p.second
+}
+
+// Place k, the first or the second, taken by a frame for buffer n, which is the newest.
+pub fn taken(p: Places, k: u8, n: u8) -> Places
+    ensures { result ≡ occupied p k n }
+{
+    match k {
+        0 => Places {
+            first: n,
+            swapped: true,
+            ..p
+        },
+        _ => Places {
+            second: n,
+            swapped: false,
+            ..p
+        },
     }
-    false
-}
-
-// The first place taken by a frame for buffer n, which is the newest.
-pub fn in_first(p: Places, n: u8) -> Places
-    ensures { result ≡ occupied p 0 n }
-{
-    let mut next = p;
-    next.first = n;
-    next.swapped = true;
-    next
-}
-
-// The same of the second place.
-pub fn in_second(p: Places, n: u8) -> Places
-    ensures { result ≡ occupied p 1 n }
-{
-    let mut next = p;
-    next.second = n;
-    next.swapped = false;
-    next
 }
 
 // A frame waits for buffer n.
+#[tactic(auto, unfolding(crate::specs::Code::is_awaited, masks::specs::Pick::pick))]
 pub fn is_awaited(p: Places, n: u8) -> bool
     ensures { result ≡ is_awaited p n }
 {
@@ -49,16 +47,15 @@ pub fn is_awaited(p: Places, n: u8) -> bool
 }
 
 // The place of the newest frame that waits for buffer n; the second where none does.
+#[tactic(auto, unfolding(crate::specs::Code::newest_of, masks::specs::Pick::pick))]
 pub fn newest(p: Places, n: u8) -> usize
     ensures { result ≡ newest_of p n }
 {
-    if p.first == n {
-        if p.second == n {
-            return if p.swapped { 0 } else { 1 };
-        }
-        return 0;
+    if p.first == n && (p.swapped || p.second != n) {
+        0
+    } else {
+        1
     }
-    1
 }
 
 // What stands in a place that held x, once no frame waits for buffer n.
@@ -69,27 +66,25 @@ fn without(x: u8, n: u8) -> u8
 }
 
 // The places without the frames for buffer n.
+#[tactic(auto, unfolding(crate::specs::Code::freed_for, masks::specs::Pick::pick))]
 fn freed(p: Places, n: u8) -> Places
     ensures { result ≡ freed_for p n }
 {
-    let mut next = p;
-    let first = without(p.first, n);
-    let second = without(p.second, n);
-    next.first = first;
-    next.second = second;
-    next
+    Places {
+        first: without(p.first, n),
+        second: without(p.second, n),
+        ..p
+    }
 }
 
 // The frames that wait for buffer n delivered to it, at least one: IFLG is set, and their places are free. Of two the newer is left in
 // the buffer.
+#[tactic(auto, unfolding(crate::specs::Code::deliver_to, masks::specs::Pick::pick))]
 pub fn deliver(c: Control, n: u8) -> Control
     ensures { result ≡ deliver_to c n }
 {
-    let p = c.places;
     let mut next = c;
-    let places = freed(p, n);
-    let iflg = masks::put(c.buffers.iflg, n, true);
-    next.places = places;
-    next.buffers.iflg = iflg;
+    next.places = freed(c.places, n);
+    next.buffers.iflg = masks::put(c.buffers.iflg, n, true);
     next
 }

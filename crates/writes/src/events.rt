@@ -6,12 +6,14 @@ use rules::Events;
 use rules::bits::{GISR_EVENTS, GISR_OTHERS, RISR_EVENTS, SYNLIF, has};
 
 // A write of $06: a written 1 clears an event flag.
+#[tactic(auto, unfolding(masks::specs::Pick::pick, rules::specs::Flags::write_risr))]
 pub(crate) fn write_risr(f: Events, v: u8) -> Events
     ensures { result ≡ write_risr f v }
 {
-    let mut next = f;
-    next.risr = f.risr & !(v & RISR_EVENTS);
-    next
+    Events {
+        risr: f.risr & !(v & RISR_EVENTS),
+        ..f
+    }
 }
 
 // A SYNLIF clear that waits for the next sync: the flag stands, and the module is unsynchronized.
@@ -23,15 +25,20 @@ fn defers_clear(f: Events, synced: bool, v: u8) -> bool
 }
 
 // A write of $07: a written 1 clears an event flag, SYNLIF perhaps later.
+#[tactic(auto, unfolding(masks::specs::Pick::pick, rules::specs::Flags::write_gisr))]
 pub(crate) fn write_gisr(f: Events, synced: bool, v: u8) -> Events
     ensures { result ≡ write_gisr synced f v }
 {
-    let mut next = f;
     if defers_clear(f, synced, v) {
-        next.gisr = f.gisr & !(v & GISR_OTHERS);
-        next.clearing = true;
-        return next;
+        Events {
+            gisr: f.gisr & !(v & GISR_OTHERS),
+            clearing: true,
+            ..f
+        }
+    } else {
+        Events {
+            gisr: f.gisr & !(v & GISR_EVENTS),
+            ..f
+        }
     }
-    next.gisr = f.gisr & !(v & GISR_EVENTS);
-    next
 }

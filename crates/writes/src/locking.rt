@@ -3,10 +3,9 @@ ghost use Rattle.std.specs.Prelude.{◌≡◌};
 ghost use Rattle.rules.specs.Record.{with_fifo};
 ghost use Rattle.rules.specs.Writes.{enters_by_lock, lock_error, disarm, lock_fifo, lock, without_oldest, release_fifo, release_all};
 
-use crate::parts::{with_receive, with_transmit};
 use kinds::{is_receive, is_transmit, place_after};
 use locks::Locks;
-use modes::{enter, with_fifo};
+use modes::enter;
 use rules::bits::{LOCKIE, has};
 use rules::{Control, Fifo};
 
@@ -18,6 +17,7 @@ fn enters_by_lock(c: Control, l: Locks) -> bool
     l.has_holder() && has(c.config.gier, LOCKIE) && !c.mode.init
 }
 
+#[tactic(auto, unfolding(masks::specs::Pick::pick, rules::specs::Writes::lock_error))]
 fn lock_error(c: Control, l: Locks) -> Control
     ensures { result ≡ lock_error l c }
 {
@@ -32,8 +32,7 @@ fn disarm(c: Control, n: u8) -> Control
     ensures { result ≡ disarm c n }
 {
     let mut next = c;
-    let armed = masks::put(c.buffers.armed, n, false);
-    next.buffers.armed = armed;
+    next.buffers.armed = masks::put(c.buffers.armed, n, false);
     next
 }
 
@@ -47,16 +46,19 @@ fn lock_fifo(c: Control) -> Control
 }
 
 // A new lock on buffer n. Of the FIFO's buffers refusal 9 has left only the oldest entry.
+#[tactic(auto, unfolding(masks::specs::Pick::pick, rules::specs::Writes::lock))]
 pub(crate) fn lock(c: Control, n: u8) -> Control
     ensures { result ≡ lock c n }
 {
     if is_transmit(c, n) {
-        let l = c.transmit;
-        return lock_error(with_transmit(disarm(c, n), l.take(n)), l);
+        let mut next = disarm(c, n);
+        next.transmit = c.transmit.take(n);
+        return lock_error(next, c.transmit);
     }
     if is_receive(c, n) {
-        let l = c.receive;
-        return lock_error(with_receive(c, l.take(n)), l);
+        let mut next = c;
+        next.receive = c.receive.take(n);
+        return lock_error(next, c.receive);
     }
     lock_fifo(c)
 }
@@ -65,19 +67,15 @@ pub(crate) fn lock(c: Control, n: u8) -> Control
 fn without_oldest(c: Control) -> Fifo
     ensures { result ≡ without_oldest c }
 {
-    let mut f = c.fifo;
-    let oldest = place_after(c.config.fsiz, c.fifo.oldest);
-    let count = if 0 < c.fifo.count {
-        c.fifo.count - 1
-    } else {
-        0
-    };
-    f.oldest = oldest;
-    f.count = count;
-    f.locked = false;
-    f
+    Fifo {
+        oldest: place_after(c.config.fsiz, c.fifo.oldest),
+        count: c.fifo.count.saturating_sub(1),
+        locked: false,
+        ..c.fifo
+    }
 }
 
+#[tactic(auto, unfolding(masks::specs::Pick::pick, rules::specs::Writes::release_fifo))]
 fn release_fifo(c: Control, n: u8) -> Fifo
     ensures { result ≡ release_fifo c n }
 {
@@ -89,14 +87,13 @@ fn release_fifo(c: Control, n: u8) -> Fifo
 }
 
 // Whichever lock buffer n has is released.
+#[tactic(auto, unfolding(masks::specs::Pick::pick, rules::specs::Writes::release_all))]
 pub(crate) fn release_all(c: Control, n: u8) -> Control
     ensures { result ≡ release_all c n }
 {
-    let rx = c.receive;
-    let tx = c.transmit;
-    let f = release_fifo(c, n);
-    with_fifo(
-        with_transmit(with_receive(c, rx.release(n)), tx.release(n)),
-        f,
-    )
+    let mut next = c;
+    next.receive = c.receive.release(n);
+    next.transmit = c.transmit.release(n);
+    next.fifo = release_fifo(c, n);
+    next
 }

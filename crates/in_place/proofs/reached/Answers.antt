@@ -21,7 +21,7 @@ pub returns-then-a-lt80 : goal.returns-then-a-lt80
 returns-then-a-lt80 c = λ l.
     let self = c.args.c.now in
     let sixteen : length self.rows ≡ 16 = search rules in
-    carried self (write c.args.a c.args.v) _ _ _ c.carry.ensures
+    carried self (write c.args.a c.args.v) _ _ _ c.carry.ensures.next c.carry.ensures.answered
     (ap (changed self) (c.window_change-x.ensures l c.if-a-lt80.true)
     ∙ low-changes self sixteen c.args.a c.args.v c.if-a-lt80.true _ (ap (row_at self.rows) c.window_row-i.ensures))
 
@@ -29,6 +29,6 @@ pub returns-else-a-lt80 : goal.returns-else-a-lt80
 returns-else-a-lt80 c = λ l.
     let self = c.args.c.now in
     let sixteen : length self.rows ≡ 16 = search rules in
-    carried self (write c.args.a c.args.v) _ _ _ c.carry-else-a-lt80.ensures
+    carried self (write c.args.a c.args.v) _ _ _ c.carry-else-a-lt80.ensures.next c.carry-else-a-lt80.ensures.answered
     (ap (changed self) c.control_change-x.ensures
     ∙ control-changes self sixteen c.args.a c.args.v c.if-a-lt80.false _ (ap (row_at self.held) c.newest_place-k.ensures))

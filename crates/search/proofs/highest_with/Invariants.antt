@@ -1,4 +1,3 @@
-use Prim.Native.Nat.{◌≤◌}
 use mathlib.Core.Path.{◌≡◌}
 use Rattle.masks.specs.Bits.{highest}
 use Rattle.search.specs.IdentLaws.{carries_in}
@@ -6,7 +5,4 @@ use Rattle.search.proofs.highest_with.Given as goal
 
 -- the search of all is the search below k
 abbrev pub invariant-loop-k : goal.invariant-loop-k
-invariant-loop-k l = (l.k ≤ 16) × (highest (carries_in l.ids l.m l.i) 16 ≡ highest (carries_in l.ids l.m l.i) l.k)
-
-abbrev pub decreases-loop-k : goal.decreases-loop-k
-decreases-loop-k l = l.k
+invariant-loop-k l = highest (carries_in l.ids l.m l.i) 16 ≡ highest (carries_in l.ids l.m l.i) l.k

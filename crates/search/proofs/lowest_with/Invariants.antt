@@ -1,4 +1,4 @@
-use Prim.Native.Nat.{◌-◌, ◌≤◌}
+use Prim.Native.Nat.{◌-◌}
 use mathlib.Core.Path.{◌≡◌}
 use Rattle.masks.specs.Bits.{lowest}
 use Rattle.search.specs.IdentLaws.{carries_in}
@@ -6,7 +6,4 @@ use Rattle.search.proofs.lowest_with.Given as goal
 
 -- the search at the start is the search from here on
 abbrev pub invariant-loop-k : goal.invariant-loop-k
-invariant-loop-k l = (l.k ≤ 16) × (lowest (carries_in l.ids l.m l.i) 0 16 ≡ lowest (carries_in l.ids l.m l.i) l.k (16 - l.k))
-
-abbrev pub decreases-loop-k : goal.decreases-loop-k
-decreases-loop-k l = 16 - l.k
+invariant-loop-k l = lowest (carries_in l.ids l.m l.i) 0 16 ≡ lowest (carries_in l.ids l.m l.i) l.k (16 - l.k)

@@ -18,6 +18,6 @@ unfolding to_buffer raise_last cancel
 returns c =
     λ i. let a = c.args in
     let fits : a.c.buffers.iflg < 65536 = search rules in
-    simp (c.raising-stored.ensures, c.one.ensures)
+    simp (c.raising.ensures, c.one.ensures)
     (stored-ruled a.c i a.n fits
     ∙ simp (pick-false, locked-raised a.c i a.n, ← c.is_locked.ensures, c.if-is_locked.false))

@@ -18,7 +18,7 @@ pub returns-then-c : goal.returns-then-c
 unfolding to_fifo raise_last cancel
 returns-then-c c =
     let a = c.args in
-    simp c.raising-overrun.ensures
+    simp c.raising-then-c.ensures
     (overrun-ruled a.c a.i
     ∙ simp (pick_true, takes-raised a.c a.i, ← c.fifo_takes.ensures, c.if-not-fifo_takes.false, le-leb _ _ c.if-c.true))
 
@@ -26,6 +26,6 @@ pub returns : goal.returns
 unfolding to_fifo raise_last cancel
 returns c =
     let a = c.args in
-    simp c.raising-queued.ensures
+    simp c.raising-2.ensures
     (queued-ruled a.c a.i a.c.fifo.next c.if-c.false
     ∙ simp (pick_true, pick-false, takes-raised a.c a.i, ← c.fifo_takes.ensures, c.if-not-fifo_takes.false, lt-leb _ _ c.if-c.false))

@@ -9,4 +9,4 @@ pub returns : goal.returns
 returns c =
     let self = c.args.self in
     let sixteen : length self.rows ≡ 16 = search rules in
-    ap (staying self) c.read_answer-said.ensures ∙ read-answers self sixteen c.args.a _ (ap (row_at self.rows) c.window_row-i.ensures)
+    ap (staying self) c.read_answer.ensures ∙ read-answers self sixteen c.args.a _ (ap (row_at self.rows) c.window_row-i.ensures)

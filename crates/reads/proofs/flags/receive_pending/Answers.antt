@@ -1,15 +1,12 @@
 use native.Mathlib.Omega.{arith}
-use Rattle.masks.specs.Laws.{own, and-by, not-by-mask}
+use Rattle.masks.specs.Laws.{own, and-by}
 use Rattle.rules.specs.Flags.{receive_pending}
-use Rattle.kinds.proofs.KindLaws.{from_on}
 use Rattle.reads.proofs.flags.receive_pending.Goals as goal
 
 pub returns : goal.returns
 unfolding receive_pending
-returns c = let b =
-    c.args.c.buffers in
+returns c =
+    let b = c.args.c.buffers in
     and-by _ _ _ _
-    (and-by _ _ _ _
-    (and-by _ _ _ _ (not-by-mask _ _ (own b.cfg (omega arith))) (from_on _ _ c.below.ensures))
-    (own b.iflg (omega arith)))
+    (and-by _ _ _ _ c.receivers.ensures (own b.iflg (omega arith)))
     (own b.iena (omega arith))

@@ -1,0 +1,2 @@
+-- nothing to believe: laws, and the code's own definitions
+pub mod CodePassing

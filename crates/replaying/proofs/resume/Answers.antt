@@ -1,4 +1,0 @@
-use Rattle.replaying.proofs.resume.Goals as goal
-
-pub returns : goal.returns
-returns c = rw c.goes_on.ensures
