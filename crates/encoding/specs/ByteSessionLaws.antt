@@ -19,6 +19,7 @@ use Rattle.controller.specs.Calls.{step_for}
 use Rattle.controller.specs.declared.Call.{Call}
 use Rattle.controller.specs.declared.Call.TheVariants.{Write, Sync, Slot, Frame, Fault}
 use Rattle.encoding.specs.Calls.{address_of, byte_of, sync_of, verdict_of, fault_of, call_of}
+use Rattle.encoding.specs.Code.{meant_of}
 use Rattle.encoding.specs.Bytes.{Bytes, BringsBytes, AllBytes}
 use Rattle.encoding.specs.ByteListLaws.{set_all, replicate-all, set-bytes, zero-bytes, no_bytes_lem, cons-bytes, drop-bytes, take-bytes, append-bytes}
 use Rattle.encoding.specs.ByteRuleLaws.{InBytes, put_by, said_by, PlanBytes, HeadBytes, reset-control-bytes, decide-bytes}
@@ -182,3 +183,16 @@ module _ (f room : List ℕ) (b : Bytes f) where
   calls-bring-bytes (suc (suc (suc (suc (suc (suc (suc zero))))))) first second = if-made Brings Fault (fault_of first) (λ k. record { value = omega arith; frame = no_bytes_lem })
   calls-bring-bytes (suc (suc (suc (suc (suc (suc (suc (suc zero)))))))) first second = record { value = omega arith; frame = no_bytes_lem }
   calls-bring-bytes (suc (suc (suc (suc (suc (suc (suc (suc (suc n))))))))) first second = tt
+
+  -- the same of the call that is meant, whether or not the numbers stand for one
+  pub meant-bring-bytes : (kind first second : ℕ) → Brings (meant_of kind first second)
+  unfolding meant_of
+  meant-bring-bytes zero first second = record { value = omega arith; frame = no_bytes_lem }
+  meant-bring-bytes (suc zero) first second = record { value = omega arith; frame = no_bytes_lem }
+  meant-bring-bytes (suc (suc zero)) first second = record { value = omega arith; frame = no_bytes_lem }
+  meant-bring-bytes (suc (suc (suc zero))) first second = record { value = omega arith; frame = no_bytes_lem }
+  meant-bring-bytes (suc (suc (suc (suc zero)))) first second = record { value = omega arith; frame = no_bytes_lem }
+  meant-bring-bytes (suc (suc (suc (suc (suc zero))))) first second = record { value = omega arith; frame = no_bytes_lem }
+  meant-bring-bytes (suc (suc (suc (suc (suc (suc zero)))))) first second = record { value = omega arith; frame = b }
+  meant-bring-bytes (suc (suc (suc (suc (suc (suc (suc zero))))))) first second = record { value = omega arith; frame = no_bytes_lem }
+  meant-bring-bytes (suc (suc (suc (suc (suc (suc (suc (suc n)))))))) first second = record { value = omega arith; frame = no_bytes_lem }

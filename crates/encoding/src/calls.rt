@@ -1,10 +1,10 @@
 // The call that a kind and its two numbers stand for. SyncKind and Fault are of another crate, which alone may write a TryFrom for them: here
 // they are made by functions.
-#![tactic(auto, unfolding(crate::specs::Calls::byte_of, crate::specs::Calls::address_of, crate::specs::Calls::sync_of, crate::specs::Calls::verdict_of, crate::specs::Calls::fault_of, crate::specs::Calls::call_of, crate::specs::Code::sized_of))]
+#![tactic(auto, unfolding(crate::specs::Calls::byte_of, crate::specs::Calls::address_of, crate::specs::Calls::sync_of, crate::specs::Calls::verdict_of, crate::specs::Calls::fault_of, crate::specs::Calls::call_of, crate::specs::Code::sized_of, crate::specs::Code::sync_kind_of, crate::specs::Code::fault_kind_of, crate::specs::Code::meant_of, masks::specs::Pick::pick))]
 
 ghost use Rattle.std.specs.Prelude.{◌≡◌};
 ghost use Rattle.encoding.specs.Calls.{byte_of, address_of, sync_of, verdict_of, fault_of, call_of};
-ghost use Rattle.encoding.specs.Code.{sized_of, asked_of};
+ghost use Rattle.encoding.specs.Code.{sized_of, asked_of, sync_kind_of, fault_kind_of, meant_of};
 
 use crate::{SIZE, Wrong};
 use controller::Call;
@@ -90,4 +90,42 @@ pub fn asked(kind: u32, first: u32, second: u32) -> Result<Call, Wrong>
     ensures { result ≡ asked_of kind first second }
 {
     known(kind, first, second).ok_or(Wrong::Unknown)
+}
+
+fn sync_kind_meant(first: u32) -> SyncKind
+    ensures { result ≡ sync_kind_of first }
+{
+    if first == 0 {
+        SyncKind::Normal
+    } else {
+        SyncKind::Alarm
+    }
+}
+
+fn fault_kind_meant(first: u32) -> Fault
+    ensures { result ≡ fault_kind_of first }
+{
+    match first {
+        0 => Fault::Early,
+        1 => Fault::Lost,
+        2 => Fault::Illegal,
+        _ => Fault::Mismatch,
+    }
+}
+
+// The call of a kind, for who has judged its numbers already. Nothing is judged here, so numbers that stand for no call have one too.
+pub fn meant(kind: u32, first: u32, second: u32) -> Call
+    ensures { result ≡ meant_of kind first second }
+{
+    match kind {
+        0 => Call::Reset,
+        1 => Call::Read(address(first)),
+        2 => Call::Write(address(first), (second % 256) as u8),
+        3 => Call::Sync(sync_kind_meant(first)),
+        4 => Call::SyncDue,
+        5 => Call::Slot((first % 256) as u8),
+        6 => Call::Frame(first != 0),
+        7 => Call::Fault(fault_kind_meant(first)),
+        _ => Call::Timeout,
+    }
 }

@@ -2,7 +2,7 @@
 #![tactic(auto)]
 
 ghost use Rattle.std.specs.Prelude.{◌≡◌};
-ghost use Rattle.std.specs.Option.{unwrap_or};
+ghost use Rattle.std.specs.Option.{is_some, unwrap_or};
 ghost use Rattle.masks.specs.Bits.{mask_of, number_in};
 ghost use Rattle.rules.specs.Kinds.{is_locked, is_full_transmit, is_transmit, is_receive, is_oldest, fifo_holder, lockif, is_lawful, place_after};
 ghost use Rattle.rules.specs.Bus.{examined};
@@ -95,7 +95,8 @@ pub fn is_oldest(c: Control, n: u8) -> bool
 // The holder of the FIFO window.
 #[tactic(auto, unfolding(masks::specs::Pick::pick, rules::specs::Kinds::fifo_holder))]
 pub fn fifo_holder(c: Control) -> Option<u8>
-    ensures { unwrap_or result 16 ≡ fifo_holder c }
+    ensures number { unwrap_or result 16 ≡ fifo_holder c }
+    ensures is_some { is_some result ≡ c.fifo.locked }
 {
     if c.fifo.locked {
         Some(c.fifo.oldest)

@@ -5,8 +5,12 @@ use Rattle.controller.specs.declared.Call.{Call}
 use Rattle.controller.specs.declared.Call.TheVariants.{Frame}
 use Rattle.lines.specs.declared.FrameBytes.{FrameBytes}
 use Rattle.lines.specs.declared.Found.{Found}
-use Rattle.lines.specs.Grammar.{no_bytes, no_frame, byte_of, one_of, three_of, four_of, seven_of, is_frame}
+use Rattle.lines.specs.Grammar.{no_bytes, no_frame, nibble_of, byte_of, one_of, three_of, four_of, seven_of, is_frame}
 use Rattle.lines.specs.Found.{found_by}
+
+-- `wide`: a digit's value, 256 for any other byte
+unfoldable pub wide_of : ℕ → ℕ
+wide_of b = pick (ltb 15 (nibble_of b)) 256 (nibble_of b)
 
 -- x, where it is below n
 unfoldable pub below : ℕ → ℕ → Option ℕ

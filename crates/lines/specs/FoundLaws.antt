@@ -279,3 +279,14 @@ module _ (s : List ℕ) (from : ℕ) where
       pick-keeps (λ (x : Option Found). x ≡ None → lf_in rest < length rest → own.line ≡ None) (ltb (lf_in rest) (length rest))
       (λ t e k. by-none own.line own.frame (from + lf_in rest) e)
       (λ t e k. absurd (omega (arith, ltb-false (lf_in rest) (length rest) t)))
+
+  -- at index 0 there is no LF of a step: its line has at least one byte
+  empty : lf_in rest ≡ 0 → own.line ≡ None
+  unfolding line_of is_frame short_of pick
+  empty e = ap (λ (n : ℕ). (line_of (take n rest)).line) e
+
+  -- so a step that is found has its LF behind index 0
+  pub found_nothing : (r : Found) → found_at s from ≡ Some r → r.at ≡ 0 → ⊥
+  found_nothing r e z =
+      let l : lf_in rest ≡ 0 = omega (arith, (found-lf r e).0) in
+      no_step r.call (sym (empty l) ∙ ap (λ (p : Parsed). p.line) (found-step r e))

@@ -2,7 +2,7 @@
 // The fourteen bytes are returned by value; each function answers for every argument.
 #![tactic(auto)]
 
-ghost use Rattle.std.specs.Prelude.{◌≡◌};
+ghost use Rattle.std.specs.Prelude.{◌≡◌, get_or};
 ghost use Rattle.contents.specs.Code.{well_sized};
 ghost use Rattle.contents.specs.Bytes.{store_frame, image_of};
 
@@ -21,6 +21,13 @@ pub fn store(ident: u8, len: u8, bytes: &[u8]) -> [u8; 14]
     b
 }
 
+// Byte k of a slice, 0 past its end.
+pub fn byte_or_zero(f: &[u8], k: usize) -> u8
+    ensures { result ≡ get_or f.now k 0 }
+{
+    f.get(k).copied().unwrap_or(0)
+}
+
 // The contents after a frame is stored that is one slice: its data part goes on to `store` as it stands. An identifier or a
 // length byte that it lacks is 0.
 pub fn store_frame(f: &[u8]) -> [u8; 14]
@@ -28,8 +35,7 @@ pub fn store_frame(f: &[u8]) -> [u8; 14]
 {
     match f {
         [ident, len, ..] => store(*ident, *len, &f[2..]),
-        [ident] => store(*ident, 0, b""),
-        [] => store(0, 0, b""),
+        _ => store(byte_or_zero(f, 0), byte_or_zero(f, 1), b""),
     }
 }
 
