@@ -42,3 +42,8 @@ synced-ready k c hs m e = simp (same-mask (arms_of c m) (arms (cancel c) hs) (λ
 pub due-ready : (c : Control) (hs : List Head) (m : ℕ) → m ≡ mask_of (is_ready c hs) → due_of c m ≡ due_sync c hs
 unfolding due_of due_sync
 due-ready c hs m e = simp (synced-ready (due_kind c) c hs m e)
+
+-- out of initialization and awake, a bus step is the plan given last
+pub bus-awake : (c : Control) (p q : Plan) → c.mode.init ≡ false → asleep c ≡ false → on_bus c p q ≡ q
+unfolding on_bus
+bus-awake c p q i s = pick-false c.mode.init (plain c Ignored) (pick (asleep c) p q) i ∙ pick-false (asleep c) p q s

@@ -61,17 +61,22 @@ fn sleeps_on<F: FnOnce() -> Ruling>(c: Control, step: F) -> Ruling
     step()
 }
 
-// A frame with identifier i, whose dedicated receive buffer is n, if there is one. A number from 16 on is none.
+// A frame with identifier i, whose dedicated receive buffer is n, if there is one. A number from 16 on is none. Not by `wakes`: with a closure a bad
+// frame from C took from a third to two thirds more time, a good one a quarter.
 pub fn on_frame(c: Control, good: bool, i: u8, n: Option<u8>) -> Ruling
     ensures { result ≡ ruling_of (wakes c (judged c good i (number_in n))) }
 {
-    wakes(c, || {
-        let o = judged(c, good, i, n);
-        Ruling {
-            next: marked(c, o, i),
-            verdict: o.verdict,
-        }
-    })
+    if c.mode.init {
+        return ruling(c, Answer::Ignored);
+    }
+    if asleep(c) {
+        return ruling(woken(c), Answer::Woke);
+    }
+    let o = judged(c, good, i, n);
+    Ruling {
+        next: marked(c, o, i),
+        verdict: o.verdict,
+    }
 }
 
 // Slot i. Its buffer is n, the highest armed one that carries i, if there is one. A number from 16 on is none.
